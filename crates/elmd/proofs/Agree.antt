@@ -8,8 +8,9 @@ use lib.Bits.{bitXor}
 use lib.ListN.{take, drop}
 use Rattle.std.proofs.shelf.Tests.{lt-ltb}
 use Rattle.std.proofs.shelf.Lists.{take-take, drop-take}
-use Rattle.block.specs.Field.{ofBytes}
-use Rattle.elmd.specs.Stream.{Frame, tOf, pow, padded, part, blockAt, blocks, base, inMask, W, cipherBlock, checkBlock, place, places, mark, input, X}
+use Rattle.block.specs.Bytes.{ofBytes, padded}
+use Rattle.elmd.specs.Stream.{Frame, tOf, pow, part, blockAt, blocks, inMask, W, cipherBlock, checkBlock, place, places, mark, input, X}
+use Rattle.cipher.specs.Meaning.{base}
 use Rattle.elmd.specs.Laws.{Agreement, innerX, Streaming}
 use Rattle.elmd.proofs.Rows.{join-same}
 

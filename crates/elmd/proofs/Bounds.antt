@@ -9,11 +9,14 @@ use lib.Dec.{ltb, eqb, lit<}
 use lib.ListN.{length, take, drop, replicate, length-append, length-take}
 use Rattle.std.proofs.shelf.Tests.{cond-both}
 use Rattle.std.proofs.shelf.Elements.{all-append, all-take, all-drop}
-use Rattle.block.specs.Field.{dbl, half, three, seven, ofBytes}
+use Rattle.block.proofs.Filling.{padded-length}
+use Rattle.block.specs.Field.{dbl, half, three, seven}
+use Rattle.block.specs.Bytes.{ofBytes, padded, Bytes}
 use Rattle.block.proofs.Laws.{dbl-lt, half-lt, three-lt, five-lt, seven-lt}
 use Rattle.block.proofs.Bytes.{ofBytes-lt}
-use Rattle.elmd.specs.Stream.{Frame, pow, padded, part, blockAt, blocks, base, headMask, headBlock, chainHead, iv, sumTo, outMask, inMask, tOf, spot, checkSpot, cipherBlock, checkBlock, W, Y, mark, input, X}
-use Rattle.elmd.specs.Laws.{Bytes, Sound}
+use Rattle.elmd.specs.Stream.{Frame, pow, part, blockAt, blocks, headMask, headBlock, chainHead, iv, sumTo, outMask, inMask, tOf, spot, checkSpot, cipherBlock, checkBlock, W, Y, mark, input, X}
+use Rattle.cipher.specs.Meaning.{base}
+use Rattle.elmd.specs.Laws.{Sound}
 
 abbrev pub Small : ℕ → Type 0
 Small v = v < 2 ^ 128
@@ -27,9 +30,6 @@ bytes-small xs e h = rw e at (ofBytes-lt xs h)
 pub zeros : (n : ℕ) → Bytes (replicate n 0)
 zeros zero = tt
 zeros (suc n) = (omega arith, zeros n)
-
-pub padded-length : (bs : List ℕ) → length bs ≤ 16 → length (padded bs) ≡ 16
-padded-length bs h = simp (length-append, length-take) (omega arith)
 
 pub padded-bytes : (bs : List ℕ) → Bytes bs → Bytes (padded bs)
 padded-bytes bs h = all-append (λ b. b < 256) bs (take (16 - length bs) (0x80 ∷ replicate 15 0)) h (all-take (λ b. b < 256) (16 - length bs) (0x80 ∷ replicate 15 0) (omega arith, zeros 15))
@@ -83,7 +83,7 @@ module _ (u : Frame) (sound : Sound u) where
       cond-both (ltb (length (u .heading)) (16 * i)) (three (seven a)) (three b) Small (λ e. three-lt (seven a) (seven-lt a (mask-small (pred i)))) (λ e. three-lt b (mask-small i))
 
   headBlock-small : (i : ℕ) → Small (headBlock u i)
-  headBlock-small zero = bytes-small (u .number ++ u .settings) (simp length-append (let a = sound .settings-size in let b = sound .number-size in omega arith)) (all-append (λ b. b < 256) (u .number) (u .settings) (sound .number-bytes) (sound .settings-bytes))
+  headBlock-small zero = bytes-small (u .nonce ++ u .settings) (simp length-append (let a = sound .settings-size in let b = sound .nonce-size in omega arith)) (all-append (λ b. b < 256) (u .nonce) (u .settings) (sound .nonce-bytes) (sound .settings-bytes))
   headBlock-small (suc i) = block-small (u .heading) (suc i) (sound .heading-bytes)
 
   chain-small : (i : ℕ) → Small (chainHead u i)

@@ -13,21 +13,23 @@ use lib.ListN.{length, take, drop, length-append, length-drop, take-append-drop}
 use Rattle.std.proofs.shelf.Elements.{all-drop, all-append}
 use Rattle.std.proofs.shelf.Lists.{take-all}
 use Rattle.std.proofs.shelf.Tests.{cases-lt, cond-true, eq-eqb}
-use Rattle.block.specs.Field.{bytesOf}
+use Rattle.block.specs.Bytes.{bytesOf, padded, Bytes}
 use Rattle.block.proofs.Laws.{xor-cancel}
 use Rattle.block.proofs.Bytes.{length-bytesOf, number-back}
-use Rattle.elmd.specs.Stream.{Frame, tOf, pow, padded, part, blockAt, blocks, base, outMask, checks, checkSpot, tagSpot, tagSize, W, cipherBlock, checkBlock, place, places, tagBytes, mark, X, stream}
+use Rattle.elmd.specs.Stream.{Frame, tOf, pow, part, blockAt, blocks, outMask, checks, checkSpot, tagSpot, tagSize, W, cipherBlock, checkBlock, place, places, tagBytes, mark, X, stream}
+use Rattle.cipher.specs.Meaning.{base}
 use Rattle.elmd.specs.Opening.{blocksOf, blockIn, wR, xR, pR, released, Check, Checks}
-use Rattle.elmd.specs.Laws.{Bytes, Begins, Sound, MessageOf, Extends, Extension, Release}
+use Rattle.elmd.specs.Laws.{Begins, Sound, MessageOf, Extends, Extension, Release}
 use Rattle.elmd.proofs.Quo.{quo-back, quo-fits, quo-mono}
 use Rattle.elmd.proofs.Rows.{part-at, block-at, join-begins, join-same, begins-trans}
-use Rattle.elmd.proofs.Bounds.{Small, X-small, check-small, padded-bytes, padded-length, part-bytes, part-short}
+use Rattle.elmd.proofs.Bounds.{Small, X-small, check-small, padded-bytes, part-bytes, part-short}
+use Rattle.block.proofs.Filling.{padded-length, padded-whole}
 use Rattle.elmd.proofs.Sizes.{places-length, stream-length}
 use Rattle.elmd.proofs.Agree.{same-places, inner-X}
 use Rattle.elmd.proofs.Recover.{front-block, stream-W, stream-P}
 use Rattle.elmd.proofs.Padding.{inner-part, parts-join}
 use Rattle.elmd.proofs.Injective.{same-l}
-use Rattle.elmd.proofs.Front.{bytesOf-bytes, padded-whole, block-of, x-small, p-small, again}
+use Rattle.elmd.proofs.Front.{bytesOf-bytes, block-of, x-small, p-small, again}
 
 pub places-begin : (u : Frame) (m : List ℕ) (i : ℕ) → i < blocks m → Begins (places u (X u m) i) (stream u m)
 unfolding stream

@@ -11,14 +11,16 @@ use lib.ListN.{length, length-replicate, take, drop, replicate, length-append, l
 use Rattle.std.proofs.shelf.Elements.{all-take, all-append}
 use Rattle.std.proofs.shelf.Lists.{append-nil, take-all, take-at, drop-at}
 use Rattle.std.proofs.shelf.Tests.{cases-lt, cases-eq, cond-true, cond-false, eq-eqb, ne-eqb}
-use Rattle.block.specs.Field.{three, bytesOf, ofBytes}
+use Rattle.block.specs.Field.{three}
+use Rattle.block.specs.Bytes.{bytesOf, ofBytes, padded, Bytes}
 use Rattle.block.proofs.Laws.{xor-cancel}
 use Rattle.block.proofs.Bytes.{length-bytesOf, number-back, bytes-number-back}
-use Rattle.elmd.specs.Stream.{spot, Frame, tOf, padded, part, blockAt, blocks, inMask, outMask, checks, tagSpot, tagSize, lastSize, sumTo, W, cipherBlock, tagBlock, places, tagBytes, mark, X, stream}
+use Rattle.elmd.specs.Stream.{spot, Frame, tOf, part, blockAt, blocks, inMask, outMask, checks, tagSpot, tagSize, lastSize, sumTo, W, cipherBlock, tagBlock, places, tagBytes, mark, X, stream}
 use Rattle.elmd.specs.Opening.{opened, blocksOf, blockIn, wR, xR, pR, sumR, lastR, tagR, released, Right}
-use Rattle.elmd.specs.Laws.{LaidOut, Opening, Possible, Fitting, Bytes, Begins, Sound, MessageOf, Finish}
+use Rattle.elmd.specs.Laws.{LaidOut, Opening, Possible, Fitting, Begins, Sound, MessageOf, Finish}
 use Rattle.elmd.proofs.Rows.{sum-same, xor-cancel-left}
-use Rattle.elmd.proofs.Bounds.{Small, zeros, xor-small, dec-small, inMask-small, sum-small, block-small, padded-bytes, padded-length, part-bytes, part-short}
+use Rattle.elmd.proofs.Bounds.{Small, zeros, xor-small, dec-small, inMask-small, sum-small, block-small, padded-bytes, part-bytes, part-short}
+use Rattle.block.proofs.Filling.{padded-length}
 use Rattle.elmd.proofs.Sizes.{places-length, stream-length, l-pos, last-pos, last-le}
 use Rattle.elmd.proofs.Agree.{Same, same-places, same-C, same-W}
 use Rattle.elmd.proofs.Recover.{block-in, stream-W, stream-X, stream-P}

@@ -10,14 +10,17 @@ use lib.Pow.{pow-mono}
 use lib.ListN.{length, take, drop, replicate, length-take, length-drop}
 use lib.Seq.{take-add}
 use Rattle.std.proofs.shelf.Elements.{all-take, all-drop}
-use Rattle.std.proofs.shelf.Lists.{append-nil, take-replicate}
+use Rattle.std.proofs.shelf.Lists.{append-nil}
 use Rattle.std.proofs.shelf.Tests.{cond-both, eqb-true, eqb-false}
-use Rattle.block.specs.Field.{dbl, three, bytesBy, bytesOf, ofBytes}
+use Rattle.block.specs.Field.{dbl, three}
+use Rattle.block.specs.Bytes.{bytesBy, bytesOf, ofBytes, padded, Bytes}
 use Rattle.block.proofs.Laws.{xor-cancel, three-lt}
+use Rattle.block.proofs.Filling.{padded-whole}
 use Rattle.block.proofs.Bytes.{ofBytes-lt, number-back, bytes-number-back, length-bytesOf}
-use Rattle.elmd.specs.Stream.{Frame, tOf, pow, padded, part, blockAt, base, outMask, spot, checkSpot, W, Y, cipherBlock, checkBlock, places}
+use Rattle.elmd.specs.Stream.{Frame, tOf, pow, part, blockAt, outMask, spot, checkSpot, W, Y, cipherBlock, checkBlock, places}
+use Rattle.cipher.specs.Meaning.{base}
 use Rattle.elmd.specs.Opening.{blockIn, yR, wR, xR, pR, Check, Checks}
-use Rattle.elmd.specs.Laws.{Filled, Bytes, Sound}
+use Rattle.elmd.specs.Laws.{Sound}
 use Rattle.elmd.proofs.Rows.{xor-cancel-left}
 use Rattle.elmd.proofs.Quo.{due, not-due, quo-mono}
 use Rattle.elmd.proofs.Bounds.{Small, xor-small, enc-small, dec-small, outMask-small, mask-small, iv-small}
@@ -29,17 +32,6 @@ bytesBy-bytes (suc k) n = (omega arith, bytesBy-bytes k n)
 pub bytesOf-bytes : (n : ℕ) → Bytes (bytesOf n)
 unfolding bytesOf
 bytesOf-bytes n = bytesBy-bytes 16 n
-
-pub padded-whole : (bs : List ℕ) → length bs ≡ 16 → padded bs ≡ bs
-padded-whole bs e = ap (λ (n : ℕ). bs ++ take (16 - n) (0x80 ∷ replicate 15 0)) e ∙ append-nil bs
-
-pub filled : Filled
-filled bs = (
-  padded-whole bs,
-  λ h.
-      let e : 16 - length bs ≡ suc (15 - length bs) = omega arith in
-      ap (λ (n : ℕ). bs ++ take n (0x80 ∷ replicate 15 0)) e ∙ ap (λ (z : List ℕ). bs ++ 0x80 ∷ z) (take-replicate (15 - length bs) 15 0 (omega arith)),
-)
 
 pub block-of : (m : List ℕ) (i v : ℕ) → part m i ≡ bytesOf v → Small v → blockAt m i ≡ v
 unfolding blockAt

@@ -9,11 +9,11 @@ use lib.ListN.{length, take, getD, replicate, length-take, length-drop}
 use lib.Seq.{take-add}
 use Rattle.std.proofs.shelf.Tests.{cond-true, cond-false, eq-eqb, ne-eqb, cases-eq, cases-lt, cases-order}
 use Rattle.std.proofs.shelf.Lists.{getD-append-right, getD-take, take-at, take-all}
-use Rattle.block.specs.Field.{bytesOf}
+use Rattle.block.specs.Bytes.{bytesOf, padded, Bytes}
 use Rattle.block.proofs.Bytes.{number-back}
-use Rattle.elmd.specs.Stream.{padded, part, blockAt, blocks, lastSize, mark, joinTo}
-use Rattle.elmd.specs.Laws.{Bytes}
-use Rattle.elmd.proofs.Bounds.{padded-length, padded-bytes, part-short, part-bytes}
+use Rattle.elmd.specs.Stream.{part, blockAt, blocks, lastSize, mark, joinTo}
+use Rattle.block.proofs.Filling.{padded-length}
+use Rattle.elmd.proofs.Bounds.{padded-bytes, part-short, part-bytes}
 
 zeros-read : (n d : ℕ) → _≡_ {A = ℕ} (getD (replicate n 0) d 0) 0
 zeros-read zero d = refl

@@ -10,11 +10,13 @@ use lib.Dec.{eqb}
 use lib.ListN.{length, take, drop, length-drop}
 use Rattle.std.proofs.shelf.Tests.{cases-lt}
 use Rattle.std.proofs.shelf.Lists.{take-append-le, drop-append-le}
-use Rattle.block.specs.Field.{dbl, three, bytesOf, ofBytes}
+use Rattle.block.specs.Field.{dbl, three}
+use Rattle.block.specs.Bytes.{bytesOf, ofBytes, Bytes}
 use Rattle.block.proofs.Laws.{xor-cancel}
-use Rattle.elmd.specs.Stream.{Frame, tOf, pow, blockAt, blocks, base, outMask, spot, W, Y, cipherBlock, checkBlock, place, places, tagBytes, X, stream}
+use Rattle.elmd.specs.Stream.{Frame, tOf, pow, blockAt, blocks, outMask, spot, W, Y, cipherBlock, checkBlock, place, places, tagBytes, X, stream}
+use Rattle.cipher.specs.Meaning.{base}
 use Rattle.elmd.specs.Opening.{blockIn, yR, wR, xR, pR}
-use Rattle.elmd.specs.Laws.{Bytes, Begins, Sound, Recovery}
+use Rattle.elmd.specs.Laws.{Begins, Sound, Recovery}
 use Rattle.elmd.proofs.Rows.{block-at, join-begins}
 use Rattle.elmd.proofs.Bounds.{Small, mask-small, block-small, xor-small, X-small, Y-small, C-small}
 use Rattle.elmd.proofs.Quo.{quo-mono}

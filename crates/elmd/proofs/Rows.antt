@@ -8,7 +8,7 @@ use lib.Bits.{bitXor, xor-comm}
 use lib.ListN.{length, take, drop, take-append-drop}
 use Rattle.std.proofs.shelf.Lists.{append-nil, take-at, drop-at, take-append-le}
 use Rattle.std.proofs.shelf.Tests.{cases-lt}
-use Rattle.block.specs.Field.{bytesOf, ofBytes}
+use Rattle.block.specs.Bytes.{bytesOf, ofBytes}
 use Rattle.block.proofs.Bytes.{length-bytesOf, bytes-number-back}
 use Rattle.block.proofs.Laws.{xor-cancel}
 use Rattle.elmd.specs.Stream.{joinTo, sumTo}

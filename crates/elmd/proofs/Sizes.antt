@@ -8,7 +8,7 @@ use native.Mathlib.Nat.{zero-div, div-zero}
 use lib.Dec.{eqb}
 use lib.ListN.{length, getD, length-append, length-take}
 use Rattle.std.proofs.shelf.Tests.{cond-both, cond-true, cond-false, eqb-true, eqb-false, eq-eqb, ne-eqb, cases-lt, cases-eq}
-use Rattle.block.specs.Field.{bytesOf}
+use Rattle.block.specs.Bytes.{bytesOf}
 use Rattle.block.proofs.Bytes.{length-bytesOf}
 use Rattle.elmd.specs.Stream.{Frame, tOf, fOf, blocks, tagSpot, cipherBlock, checkBlock, places, tagSize, lastSize, X, stream}
 use Rattle.elmd.specs.Opening.{full, blocksOf}

@@ -10,8 +10,10 @@ use lib.ListN.{length, take, drop, length-take}
 use Rattle.std.proofs.shelf.Lists.{take-append-le, append-nil}
 use Rattle.std.proofs.shelf.Bits.{div-mul-add}
 use Rattle.std.proofs.shelf.Tests.{cond-true, cond-false, eq-eqb, ne-eqb}
-use Rattle.block.specs.Field.{dbl, three, bytesOf}
-use Rattle.elmd.specs.Stream.{Frame, tOf, pow, base, padded, blockAt, blocks, spot, tagSpot, inMask, outMask, sumTo, W, Y, cipherBlock, checkBlock, tagBlock, place, places, tagSize, lastSize, tagBytes, mark, X, stream}
+use Rattle.block.specs.Field.{dbl, three}
+use Rattle.block.specs.Bytes.{bytesOf, padded}
+use Rattle.elmd.specs.Stream.{Frame, tOf, pow, blockAt, blocks, spot, tagSpot, inMask, outMask, sumTo, W, Y, cipherBlock, checkBlock, tagBlock, place, places, tagSize, lastSize, tagBytes, mark, X, stream}
+use Rattle.cipher.specs.Meaning.{base}
 use Rattle.elmd.specs.Opening.{blockIn, yR, wR, xR, pR, released}
 use Rattle.elmd.specs.Laws.{Begins, innerX, Absorbing, Placed, Placing, lastX, lastC, lastTag, Ending, Kept, Growing, OneEnd}
 use Rattle.elmd.proofs.Quo.{quo-mono, due, not-due}

@@ -3,13 +3,14 @@ use mathlib.Core.Path.{_≡_, refl}
 use mathlib.Core.List.{List, [], _∷_}
 use Prim.Native.Nat.{ℕ}
 use lib.ListN.{replicate}
-use Rattle.block.specs.Field.{dbl, half, bytesBy, bytesOf}
-use Rattle.cipher.specs.Meaning.{paper}
-use Rattle.elmd.specs.Stream.{Frame, tOf, fOf, blockAt, base, iv, outMask, inMask, cipherBlock, checkBlock, tagBlock, tagSize, mark, input, X, stream}
+use Rattle.block.specs.Field.{dbl, half}
+use Rattle.block.specs.Bytes.{bytesBy, bytesOf}
+use Rattle.cipher.specs.Meaning.{paper, base}
+use Rattle.elmd.specs.Stream.{Frame, tOf, fOf, blockAt, iv, outMask, inMask, cipherBlock, checkBlock, tagBlock, tagSize, mark, input, X, stream}
 
 -- under the paper cipher of key k, with t and f
-abbrev pub example : (k t f : ℕ) (number heading : List ℕ) → Frame
-example k t f number heading = record { cipher = paper k; settings = 255 ∷ 0 ∷ t ∷ f ∷ 128 ∷ 0 ∷ 0 ∷ 0 ∷ []; number = number; heading = heading }
+abbrev pub example : (k t f : ℕ) (nonce heading : List ℕ) → Frame
+example k t f nonce heading = record { cipher = paper k; settings = 255 ∷ 0 ∷ t ∷ f ∷ 128 ∷ 0 ∷ 0 ∷ 0 ∷ []; nonce = nonce; heading = heading }
 
 whole : stream (example 1 0 0 (replicate 8 0) []) (replicate 16 0) ≡ bytesBy 32 0x0000000000000001010000018000000200000000000000020200000300000005
 unfolding dbl half bytesOf tOf fOf blockAt base iv outMask inMask cipherBlock checkBlock tagBlock tagSize mark input X stream

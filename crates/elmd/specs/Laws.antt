@@ -5,14 +5,12 @@ use mathlib.Core.List.{List, _∷_, _++_}
 use Prim.Native.Nat.{ℕ, suc, pred, _+_, _-_, _*_, _/_, _^_, _<_, _≤_}
 use lib.Bits.{bitXor}
 use lib.ListN.{length, take, drop, replicate}
-use Rattle.block.specs.Field.{dbl, three, bytesOf}
+use Rattle.block.specs.Field.{dbl, three}
+use Rattle.block.specs.Bytes.{Bytes, bytesOf, padded}
 use Rattle.std.specs.shelf.Lists.{All}
-use Rattle.cipher.specs.Meaning.{Lawful}
-use Rattle.elmd.specs.Stream.{Frame, tOf, fOf, pow, base, padded, blockAt, blocks, checks, spot, checkSpot, tagSpot, W, cipherBlock, checkBlock, place, places, tagSize, lastSize, sumTo, inMask, outMask, tagBytes, mark, X, stream}
+use Rattle.cipher.specs.Meaning.{Lawful, base}
+use Rattle.elmd.specs.Stream.{Frame, tOf, fOf, pow, blockAt, blocks, checks, spot, checkSpot, tagSpot, W, cipherBlock, checkBlock, place, places, tagSize, lastSize, sumTo, inMask, outMask, tagBytes, mark, X, stream}
 use Rattle.elmd.specs.Opening.{blockIn, blocksOf, wR, xR, pR, released, Checks, Right, opened, Accepts}
-
-abbrev pub Bytes : List ℕ → Type 0
-Bytes m = All (λ b. b < 256) m
 
 abbrev pub Begins : List ℕ → List ℕ → Type 0
 Begins a b = (rest : List ℕ) × (a ++ rest ≡ b)
@@ -20,9 +18,9 @@ Begins a b = (rest : List ℕ) × (a ++ rest ≡ b)
 pub record Sound (u : Frame) : Type 0 where
   pub lawful : Lawful (u .cipher)
   pub settings-size : length (u .settings) ≡ 8
-  pub number-size : length (u .number) ≡ 8
+  pub nonce-size : length (u .nonce) ≡ 8
   pub settings-bytes : Bytes (u .settings)
-  pub number-bytes : Bytes (u .number)
+  pub nonce-bytes : Bytes (u .nonce)
   pub heading-bytes : Bytes (u .heading)
 
 pub record MessageOf (u : Frame) (S k : ℕ) (m : List ℕ) : Type 0 where
@@ -52,10 +50,6 @@ pub record Layout (u : Frame) (m : List ℕ) : Type 0 where
 
 abbrev pub LaidOut : Type 0
 LaidOut = (u : Frame) → Sound u → (m : List ℕ) → Bytes m → 1 ≤ length m → Layout u m
-
--- the filling, as it is usually told
-abbrev pub Filled : Type 0
-Filled = (bs : List ℕ) → (length bs ≡ 16 → padded bs ≡ bs) × (length bs < 16 → padded bs ≡ bs ++ 0x80 ∷ replicate (15 - length bs) 0)
 
 -- before the last block, what is sealed asks neither l nor the mark
 abbrev pub innerX : Frame → List ℕ → ℕ → ℕ

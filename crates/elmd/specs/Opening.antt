@@ -6,8 +6,10 @@ use Prim.Native.Nat.{ℕ, zero, suc, pred, _+_, _-_, _*_, _/_, _<_, _≤_}
 use lib.Bits.{bitXor}
 use lib.Dec.{eqb}
 use lib.ListN.{length, take, drop}
-use Rattle.block.specs.Field.{three, bytesOf, ofBytes}
-use Rattle.elmd.specs.Stream.{Frame, tOf, pow, base, iv, padded, checks, spot, checkSpot, tagSpot, outMask, inMask, sumTo, joinTo, tagSize}
+use Rattle.block.specs.Field.{three}
+use Rattle.block.specs.Bytes.{bytesOf, ofBytes, padded}
+use Rattle.elmd.specs.Stream.{Frame, tOf, pow, iv, checks, spot, checkSpot, tagSpot, outMask, inMask, sumTo, joinTo, tagSize}
+use Rattle.cipher.specs.Meaning.{base}
 
 -- the block at e of a stream
 unfoldable pub blockIn : List ℕ → ℕ → ℕ

@@ -5,14 +5,15 @@ use Prim.Native.Nat.{ℕ, zero, suc, _+_, _-_, _*_, _/_, _%_, pred}
 use lib.Bits.{bitXor}
 use lib.Dec.{ltb, eqb}
 use lib.ListN.{length, take, drop, replicate, getD}
-use Rattle.block.specs.Field.{dbl, half, three, five, seven, bytesOf, ofBytes}
-use Rattle.cipher.specs.Meaning.{Meaning}
+use Rattle.block.specs.Field.{dbl, half, three, five, seven}
+use Rattle.block.specs.Bytes.{bytesOf, ofBytes, padded}
+use Rattle.cipher.specs.Meaning.{Meaning, base}
 
--- what a message is sealed under: the cipher, the eight settings bytes, the number, the heading
+-- what a message is sealed under: the cipher, the eight settings bytes, the nonce, the heading (the associated data)
 pub record Frame : Type 0 where
   pub cipher : Meaning
   pub settings : List ℕ
-  pub number : List ℕ
+  pub nonce : List ℕ
   pub heading : List ℕ
 
 -- t: a check behind every t blocks, none at 0 (n / 0 is 0)
@@ -28,10 +29,6 @@ abbrev pub pow : ℕ → ℕ → ℕ
 pow zero a = a
 pow (suc e) a = dbl (pow e a)
 
--- a short block is filled with 80 and zeros
-abbrev pub padded : List ℕ → List ℕ
-padded bs = bs ++ take (16 - length bs) (0x80 ∷ replicate 15 0)
-
 -- block i of a row of bytes, counted from 1
 abbrev pub part : List ℕ → ℕ → List ℕ
 part bs i = take 16 (drop (16 * (pred i)) bs)
@@ -43,15 +40,12 @@ blockAt bs i = ofBytes (padded (part bs i))
 abbrev pub blocks : List ℕ → ℕ
 blocks bs = (length bs + 15) / 16
 
-unfoldable pub base : Meaning → ℕ
-base c = cond (c .double) (c .enc (c .enc 0)) (c .enc 0)
-
 abbrev pub headMask : Frame → ℕ → ℕ
 headMask u i =
     cond (ltb (length (u .heading)) (16 * i)) (three (seven (pow (pred i) (base (u .cipher))))) (three (pow i (base (u .cipher))))
 
 abbrev pub headBlock : Frame → ℕ → ℕ
-headBlock u zero = ofBytes (u .number ++ u .settings)
+headBlock u zero = ofBytes (u .nonce ++ u .settings)
 headBlock u (suc i) = blockAt (u .heading) (suc i)
 
 -- V after the first i blocks of the heading
