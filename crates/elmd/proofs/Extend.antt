@@ -24,7 +24,7 @@ use Rattle.elmd.proofs.Quo.{quo-back, quo-fits, quo-mono}
 use Rattle.elmd.proofs.Rows.{part-at, block-at, join-begins, join-same, begins-trans}
 use Rattle.elmd.proofs.Bounds.{Small, X-small, check-small, padded-bytes, part-bytes, part-short}
 use Rattle.block.proofs.Filling.{padded-length, padded-whole}
-use Rattle.elmd.proofs.Sizes.{places-length, stream-length}
+use Rattle.elmd.proofs.Lengths.{places-length, stream-length}
 use Rattle.elmd.proofs.Agree.{same-places, inner-X}
 use Rattle.elmd.proofs.Recover.{front-block, stream-W, stream-P}
 use Rattle.elmd.proofs.Padding.{inner-part, parts-join}

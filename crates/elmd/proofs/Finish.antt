@@ -21,7 +21,7 @@ use Rattle.elmd.specs.Laws.{LaidOut, Opening, Possible, Fitting, Begins, Sound
 use Rattle.elmd.proofs.Rows.{sum-same, xor-cancel-left}
 use Rattle.elmd.proofs.Bounds.{Small, zeros, xor-small, dec-small, inMask-small, sum-small, block-small, padded-bytes, part-bytes, part-short}
 use Rattle.block.proofs.Filling.{padded-length}
-use Rattle.elmd.proofs.Sizes.{places-length, stream-length, l-pos, last-pos, last-le}
+use Rattle.elmd.proofs.Lengths.{places-length, stream-length, l-pos, last-pos, last-le}
 use Rattle.elmd.proofs.Agree.{Same, same-places, same-C, same-W}
 use Rattle.elmd.proofs.Recover.{block-in, stream-W, stream-X, stream-P}
 use Rattle.elmd.proofs.Padding.{last-part, mark-whole, whole-mark, short-mark}

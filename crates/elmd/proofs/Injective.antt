@@ -15,7 +15,7 @@ use Rattle.elmd.specs.Laws.{Sound, MessageOf, Injectivity}
 use Rattle.elmd.proofs.Quo.{quo-mono}
 use Rattle.elmd.proofs.Rows.{join-same, sum-same, xor-cancel-left}
 use Rattle.elmd.proofs.Bounds.{Small, xor-small, inMask-small, sum-small, block-small, part-short}
-use Rattle.elmd.proofs.Sizes.{lengths, stream-length, l-pos}
+use Rattle.elmd.proofs.Lengths.{lengths, stream-length, l-pos}
 use Rattle.elmd.proofs.Recover.{stream-X, stream-P}
 use Rattle.elmd.proofs.Padding.{pad-same, blocks-same, parts-all, inner-part, last-part, mark-whole, whole-mark}
 

@@ -20,7 +20,7 @@ use Rattle.elmd.specs.Laws.{Begins, Sound, Recovery}
 use Rattle.elmd.proofs.Rows.{block-at, join-begins}
 use Rattle.elmd.proofs.Bounds.{Small, mask-small, block-small, xor-small, X-small, Y-small, C-small}
 use Rattle.elmd.proofs.Quo.{quo-mono}
-use Rattle.elmd.proofs.Sizes.{places-length}
+use Rattle.elmd.proofs.Lengths.{places-length}
 use Rattle.elmd.proofs.Agree.{inner-X}
 
 -- a front of a stream has its blocks

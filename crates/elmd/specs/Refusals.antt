@@ -45,3 +45,8 @@ refuse b e rest = cond b (Err e) rest
 abbrev pub told : {A : Type 0} → Result A Refusal → Result Unit Refusal
 told (Ok x) = Ok tt
 told (Err e) = Err e
+
+-- one answer after another: the first refusal is the answer
+abbrev pub next : {A B : Type 0} → Result A Refusal → Result B Refusal → Result B Refusal
+next (Ok x) rest = rest
+next (Err e) rest = Err e
