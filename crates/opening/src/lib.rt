@@ -1,0 +1,68 @@
+// Opening: a stream and mark become their message, or a refusal.
+use block::Block;
+use cipher::Cipher;
+use elmd::heading::open_heading;
+use elmd::refusal::Mark;
+use elmd::refusal::Refusal;
+use elmd::settings::Settings;
+use elmd::shape::Shape;
+use elmd::state::ClosedHeading;
+
+mod guard;
+mod last;
+mod state;
+mod step;
+
+use guard::Wipe;
+use last::message_bytes;
+use last::put_last;
+use last::tag_matches;
+use state::Reading;
+use step::open_block;
+use step::open_last;
+
+// Opens a stream whole: writes its message at the start of `out` and answers the message's length.
+pub fn open<C: Cipher>(c: &mut C, settings: &[u8; 8], nonce: &[u8; 8], heading: &[u8], stream: &[u8], mark: Mark, out: &mut [u8]) -> Result<usize, Refusal> {
+    let mut opened = open_heading(c, settings, nonce)?;
+    opened.add(c, heading)?;
+    let closed = opened.close(c);
+    open_closed(c, closed, stream, mark, out)
+}
+
+fn open_closed<C: Cipher>(c: &mut C, h: ClosedHeading, stream: &[u8], mark: Mark, out: &mut [u8]) -> Result<usize, Refusal> {
+    let (settings, base, iv) = h.into_parts();
+    let shape = settings.shape(stream.len(), mark)?;
+    let n = 16 * shape.blocks;
+    if out.len() < n {
+        return Err(Refusal::RoomShort);
+    }
+    let first = Reading { w: iv, mask: base, out_mask: base.times5(), sum: Block::new(0, 0), since: 0, checks: 0 };
+    open_part(c, first, settings, shape, stream, mark, &mut out[0..n])
+}
+
+// Opens into exactly the place of the message's blocks. Until the stream is known to be good its bytes are held by the
+// guard, which leaves zeros on each way out.
+fn open_part<C: Cipher>(c: &mut C, first: Reading, settings: Settings, shape: Shape, stream: &[u8], mark: Mark, part: &mut [u8]) -> Result<usize, Refusal> {
+    let p = shape.blocks - 1;
+    let mut guard = Wipe { out: part, armed: true };
+    let mut s = first;
+    for i in 0..p {
+        let (next, b, good) = open_block(c, s, settings.interval as usize, stream, 16 * (i + s.checks));
+        b.store(guard.out, 16 * i);
+        if !good {
+            return Err(Refusal::BadCheck(next.checks));
+        }
+        s = next;
+    }
+    let (last, tag) = open_last(c, s, mark, Block::load(stream, 16 * (p + s.checks)));
+    let genuine = tag_matches(tag, stream, 16 * (p + 1 + s.checks));
+    let Some(k) = message_bytes(last, mark, settings.short_tag, shape.tag) else {
+        return Err(Refusal::BadTag);
+    };
+    if !genuine {
+        return Err(Refusal::BadTag);
+    }
+    put_last(guard.out, 16 * p, last, k);
+    guard.armed = false;
+    Ok(16 * p + k)
+}
