@@ -35,7 +35,7 @@ Shaped s S k (Ok h) = (u : Frame) → settingsBytes s ≡ u .settings → Laid u
 Shaped s S k (Err e) = (e ≡ StreamLength) × ((u : Frame) → settingsBytes s ≡ u .settings → (m : List ℕ) → MessageOf u S k m → ⊥)
 
 -- the checks among so many places before a tag; a check never stands last
-unfoldable pub checksAmong : (places t : ℕ) → Option ℕ
+abbrev pub checksAmong : (places t : ℕ) → Option ℕ
 checksAmong places t = cond (eqb t 0) (Some 0) (cond (eqb (places % (t + 1)) 0) None (Some ((places - 1) / (t + 1))))
 
 -- the tag has sixteen bytes, or at f as many as a last block of that mark

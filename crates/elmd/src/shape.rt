@@ -30,10 +30,18 @@ impl Settings {
         let Some(checks) = checks_among(places, self.interval as usize) else {
             return Err(Refusal::StreamLength);
         };
-        if places - checks > BLOCKS_MOST || !tag_fits(self.short_tag, mark, tag) {
+        let blocks = places - checks;
+        if blocks > BLOCKS_MOST {
             return Err(Refusal::StreamLength);
         }
-        Ok(Shape { blocks: places - checks, checks, tag })
+        if !tag_fits(self.short_tag, mark, tag) {
+            return Err(Refusal::StreamLength);
+        }
+        Ok(Shape {
+            blocks,
+            checks,
+            tag,
+        })
     }
 }
 

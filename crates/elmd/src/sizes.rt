@@ -23,7 +23,11 @@ impl Mark {
     pub fn of_length(n: usize) -> Mark
         ensures { λ r. ⌜ r ≡ markOf (cond (eqb (n % 16) 0) 1 0) ⌝ }
     {
-        if n % 16 == 0 { Mark::Whole } else { Mark::Filled }
+        if n % 16 == 0 {
+            Mark::Whole
+        } else {
+            Mark::Filled
+        }
     }
 
     // The mask of the last two inputs, from the one that a block in their place would have.

@@ -1,6 +1,5 @@
 // Every byte of `s` is 0 after.
-fn zero(s: &mut [u8])
-{
+fn zero(s: &mut [u8]) {
     for x in s.iter_mut() {
         *x = 0;
     }
@@ -13,8 +12,7 @@ pub(crate) struct Wipe<'a> {
 }
 
 impl Drop for Wipe<'_> {
-    fn drop(self)
-    {
+    fn drop(self) {
         if self.armed {
             zero(self.out);
         }

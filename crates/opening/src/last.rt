@@ -23,7 +23,11 @@ pub(crate) fn message_bytes(last: Block, mark: Mark, short: bool, tag: usize) ->
         Mark::Whole => 16,
         Mark::Filled => filling_start(&v)?,
     };
-    if tag_length(short, k) == tag { Some(k) } else { None }
+    if tag_length(short, k) == tag {
+        Some(k)
+    } else {
+        None
+    }
 }
 
 // Whether the stream ends, from `at` on, with the first bytes of the tag; in the same time wherever they differ.

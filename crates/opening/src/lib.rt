@@ -22,32 +22,70 @@ use step::open_block;
 use step::open_last;
 
 // Opens a stream whole: writes its message at the start of `out` and answers the message's length.
-pub fn open<C: Cipher>(c: &mut C, settings: &[u8; 8], nonce: &[u8; 8], heading: &[u8], stream: &[u8], mark: Mark, out: &mut [u8]) -> Result<usize, Refusal> {
+pub fn open<C: Cipher>(
+    c: &mut C,
+    settings: &[u8; 8],
+    nonce: &[u8; 8],
+    heading: &[u8],
+    stream: &[u8],
+    mark: Mark,
+    out: &mut [u8],
+) -> Result<usize, Refusal> {
     let mut opened = open_heading(c, settings, nonce)?;
     opened.add(c, heading)?;
     let closed = opened.close(c);
     open_closed(c, closed, stream, mark, out)
 }
 
-fn open_closed<C: Cipher>(c: &mut C, h: ClosedHeading, stream: &[u8], mark: Mark, out: &mut [u8]) -> Result<usize, Refusal> {
+fn open_closed<C: Cipher>(
+    c: &mut C,
+    h: ClosedHeading,
+    stream: &[u8],
+    mark: Mark,
+    out: &mut [u8],
+) -> Result<usize, Refusal> {
     let (settings, base, iv) = h.into_parts();
     let shape = settings.shape(stream.len(), mark)?;
     let n = 16 * shape.blocks;
     if out.len() < n {
         return Err(Refusal::RoomShort);
     }
-    let first = Reading { w: iv, mask: base, out_mask: base.times5(), sum: Block::new(0, 0), since: 0, checks: 0 };
+    let first = Reading {
+        w: iv,
+        mask: base,
+        out_mask: base.times5(),
+        sum: Block::new(0, 0),
+        since: 0,
+        checks: 0,
+    };
     open_part(c, first, settings, shape, stream, mark, &mut out[0..n])
 }
 
 // Opens into exactly the place of the message's blocks. Until the stream is known to be good its bytes are held by the
 // guard, which leaves zeros on each way out.
-fn open_part<C: Cipher>(c: &mut C, first: Reading, settings: Settings, shape: Shape, stream: &[u8], mark: Mark, part: &mut [u8]) -> Result<usize, Refusal> {
+fn open_part<C: Cipher>(
+    c: &mut C,
+    first: Reading,
+    settings: Settings,
+    shape: Shape,
+    stream: &[u8],
+    mark: Mark,
+    part: &mut [u8],
+) -> Result<usize, Refusal> {
     let p = shape.blocks - 1;
-    let mut guard = Wipe { out: part, armed: true };
+    let mut guard = Wipe {
+        out: part,
+        armed: true,
+    };
     let mut s = first;
     for i in 0..p {
-        let (next, b, good) = open_block(c, s, settings.interval as usize, stream, 16 * (i + s.checks));
+        let (next, b, good) = open_block(
+            c,
+            s,
+            settings.interval as usize,
+            stream,
+            16 * (i + s.checks),
+        );
         b.store(guard.out, 16 * i);
         if !good {
             return Err(Refusal::BadCheck(next.checks));

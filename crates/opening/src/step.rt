@@ -7,7 +7,13 @@ use cipher::Cipher;
 use elmd::refusal::Mark;
 
 // Opens the block at `at`, which is not the last, and judges the check behind it where one is due.
-pub(crate) fn open_block<C: Cipher>(c: &mut C, s: Reading, t: usize, stream: &[u8], at: usize) -> (Reading, Block, bool) {
+pub(crate) fn open_block<C: Cipher>(
+    c: &mut C,
+    s: Reading,
+    t: usize,
+    stream: &[u8],
+    at: usize,
+) -> (Reading, Block, bool) {
     let y = c.encrypt(Block::load(stream, at).xor(s.out_mask));
     let (x, w) = unmixed(y, s.w);
     let b = c.decrypt(x).xor(s.mask);
@@ -15,11 +21,25 @@ pub(crate) fn open_block<C: Cipher>(c: &mut C, s: Reading, t: usize, stream: &[u
     let sum = s.sum.xor(b);
     let next = s.out_mask.double();
     if s.since + 1 != t {
-        let reading = Reading { w, mask, out_mask: next, sum, since: s.since + 1, checks: s.checks };
+        let reading = Reading {
+            w,
+            mask,
+            out_mask: next,
+            sum,
+            since: s.since + 1,
+            checks: s.checks,
+        };
         return (reading, b, true);
     }
     let good = c.decrypt(w).xor(next).same(Block::load(stream, at + 16));
-    let reading = Reading { w, mask, out_mask: next.double(), sum, since: 0, checks: s.checks + 1 };
+    let reading = Reading {
+        w,
+        mask,
+        out_mask: next.double(),
+        sum,
+        since: 0,
+        checks: s.checks + 1,
+    };
     (reading, b, good)
 }
 

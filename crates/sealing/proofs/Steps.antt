@@ -132,14 +132,14 @@ pub since-is : (i t since : ℕ) → i ≡ i / t * t + since → suc i ≡ suc i
 since-is i t since c =
     ⊎-elim
     (λ d.
-        let q : suc i / t * t ≡ suc (i / t) * t = ap (λ (z : ℕ). z * t) (quo-due i t since c d) in
-        let m : suc (i / t) * t ≡ i / t * t + t = suc-mul (i / t) t in
-        let s : cond (eqb (since + 1) t) 0 (since + 1) ≡ 0 = cond-true (eqb (since + 1) t) 0 (since + 1) (eq-eqb (since + 1) t d) in
-        omega arith)
+    let q : suc i / t * t ≡ suc (i / t) * t = ap (λ (z : ℕ). z * t) (quo-due i t since c d) in
+    let m : suc (i / t) * t ≡ i / t * t + t = suc-mul (i / t) t in
+    let s : cond (eqb (since + 1) t) 0 (since + 1) ≡ 0 = cond-true (eqb (since + 1) t) 0 (since + 1) (eq-eqb (since + 1) t d) in
+    omega arith)
     (λ n.
-        let q : suc i / t * t ≡ i / t * t = ap (λ (z : ℕ). z * t) (quo-not i t since c n) in
-        let s : cond (eqb (since + 1) t) 0 (since + 1) ≡ since + 1 = cond-false (eqb (since + 1) t) 0 (since + 1) (ne-eqb (since + 1) t n) in
-        omega arith)
+    let q : suc i / t * t ≡ i / t * t = ap (λ (z : ℕ). z * t) (quo-not i t since c n) in
+    let s : cond (eqb (since + 1) t) 0 (since + 1) ≡ since + 1 = cond-false (eqb (since + 1) t) 0 (since + 1) (ne-eqb (since + 1) t n) in
+    omega arith)
     (cases-eq (since + 1) t)
 
 -- one more block fits where all p of them do

@@ -17,7 +17,14 @@ use cipher::Cipher;
 use elmd::refusal::Mark;
 
 // Seals a block that is not the last: writes it, and the check behind it where one is due.
-pub(crate) fn seal_block<C: Cipher>(c: &mut C, s: Running, t: usize, b: Block, out: &mut [u8], at: usize) -> (Running, usize)
+pub(crate) fn seal_block<C: Cipher>(
+    c: &mut C,
+    s: Running,
+    t: usize,
+    b: Block,
+    out: &mut [u8],
+    at: usize,
+) -> (Running, usize)
     requires { ⌜ s .since < 16777216 ⌝ ∗ ⌜ at + stride t (s .since) ≤ length (now out) ⌝ }
     ensures counts { λ r. ⌜ (r .1 ≡ at + stride t (s .since)) × (r .0 .since ≡ cond (eqb (s .since + 1) t) 0 (s .since + 1)) ⌝ }
     ensures back { λ r. ⌜ drop (r .1) (now (out .exit)) ≡ drop (r .1) (now (out .entry)) ⌝ }
@@ -30,14 +37,39 @@ pub(crate) fn seal_block<C: Cipher>(c: &mut C, s: Running, t: usize, b: Block, o
     let sum = s.sum.xor(b);
     let next = s.out_mask.double();
     if s.since + 1 != t {
-        return (Running { w, mask, out_mask: next, sum, since: s.since + 1 }, at + 16);
+        return (
+            Running {
+                w,
+                mask,
+                out_mask: next,
+                sum,
+                since: s.since + 1,
+            },
+            at + 16,
+        );
     }
     c.decrypt(w).xor(next).store(out, at + 16);
-    (Running { w, mask, out_mask: next.double(), sum, since: 0 }, at + 32)
+    (
+        Running {
+            w,
+            mask,
+            out_mask: next.double(),
+            sum,
+            since: 0,
+        },
+        at + 32,
+    )
 }
 
 // Seals the first `p` blocks, none of them the last.
-pub(crate) fn seal_front<C: Cipher>(c: &mut C, start: Running, t: usize, message: &[u8], p: usize, out: &mut [u8]) -> (Running, usize)
+pub(crate) fn seal_front<C: Cipher>(
+    c: &mut C,
+    start: Running,
+    t: usize,
+    message: &[u8],
+    p: usize,
+    out: &mut [u8],
+) -> (Running, usize)
     requires { ⌜ start .since ≡ 0 ⌝ ∗ ⌜ p < 16777216 ⌝ ∗ ⌜ 16 * (p + p / t) ≤ length (now out) ⌝ }
     ensures counts { λ r. ⌜ r .1 ≡ 16 * (p + p / t) ⌝ }
     ensures back { λ r. ⌜ drop (r .1) (now (out .exit)) ≡ drop (r .1) (now (out .entry)) ⌝ }
@@ -78,7 +110,15 @@ fn put_front(b: Block, out: &mut [u8], at: usize, n: usize)
 }
 
 // Seals the last block, which stands behind `p` others, and ends the stream with `size` bytes of the tag.
-pub(crate) fn seal_end<C: Cipher>(c: &mut C, s: Running, message: &[u8], p: usize, out: &mut [u8], at: usize, size: usize) -> Mark
+pub(crate) fn seal_end<C: Cipher>(
+    c: &mut C,
+    s: Running,
+    message: &[u8],
+    p: usize,
+    out: &mut [u8],
+    at: usize,
+    size: usize,
+) -> Mark
     requires { ⌜ 16 * p < length (now message) ⌝ ∗ ⌜ size ≤ 16 ⌝ ∗ ⌜ at + 16 + size ≤ length (now out) ⌝ }
     ensures mark { λ r. ⌜ r ≡ markOf (mark (now (message .entry))) ⌝ }
     ensures back { λ _. ⌜ drop (at + 16 + size) (now (out .exit)) ≡ drop (at + 16 + size) (now (out .entry)) ⌝ }

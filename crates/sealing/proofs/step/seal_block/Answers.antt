@@ -71,8 +71,7 @@ returns g c =
           let pair1 = ap (λ q. q .1) (c .mixed .ensures) in
           let cs : value (c .xor-2 .result) ≡ cipherBlock u (innerX u m) (suc i) = cc in
           let ks : value (c .xor-3 .result) ≡ checkBlock u (innerX u m) (suc (i / tOf u)) = cc in
-          let two : take (at + 32) new ≡ (take at old ++ bytesOf (cipherBlock u (innerX u m) (suc i))) ++ bytesOf (checkBlock u (innerX u m) (suc (i / tOf u))) = cc in
-          (
+          let two : take (at + 32) new ≡ (take at old ++ bytesOf (cipherBlock u (innerX u m) (suc i))) ++ bytesOf (checkBlock u (innerX u m) (suc (i / tOf u))) = cc in (
             runs-past u m i s r _ n (cc) (cc) (cc) (cc) refl,
             two ∙ append-assoc (take at old) (bytesOf (cipherBlock u (innerX u m) (suc i))) (bytesOf (checkBlock u (innerX u m) (suc (i / tOf u)))) ∙ ap (λ z. take at old ++ z) (sym (placed-past u m i s r n)),
           );

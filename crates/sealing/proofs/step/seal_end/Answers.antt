@@ -44,8 +44,8 @@ returns g c =
           let c0 : value (c .end-blocks .result .0) ≡ lastC u (mark m) p w a = ap (λ (q : ℕ × ℕ). q .0) both in
           let c1 : value (c .end-blocks .result .1) ≡ lastTag u (mark m) p w a = ap (λ (q : ℕ × ℕ). q .1) both in
           let two = front2 ∙ ap (λ (z : List ℕ). z ++ t (value (c .end-blocks .result .1))) front
-              ∙ ap (λ (v : ℕ). (take at old ++ bytesOf v) ++ t (value (c .end-blocks .result .1))) c0
-              ∙ ap (λ (v : ℕ). (take at old ++ bytesOf (lastC u (mark m) p w a)) ++ t v) c1 in
+          ∙ ap (λ (v : ℕ). (take at old ++ bytesOf v) ++ t (value (c .end-blocks .result .1))) c0
+          ∙ ap (λ (v : ℕ). (take at old ++ bytesOf (lastC u (mark m) p w a)) ++ t v) c1 in
           two ∙ append-assoc (take at old) (bytesOf (lastC u (mark m) p w a)) (take size (bytesOf (lastTag u (mark m) p w a)));
       same = cc;
     }

@@ -33,7 +33,7 @@ loop-i-again g c =
     let n = c .seal-block-to .ensures .counts in
     let a : to ≡ at + k = n .0 in
     let old : drop to (c .loop-i .out) ≡ drop to (c .args .out .now) =
-        ap (λ j. drop j (c .loop-i .out)) a ∙ sym (drop-drop k at (c .loop-i .out)) ∙ ap (drop k) (inv .3) ∙ drop-drop k at (c .args .out .now) ∙ sym (ap (λ j. drop j (c .args .out .now)) a) in
+    ap (λ j. drop j (c .loop-i .out)) a ∙ sym (drop-drop k at (c .loop-i .out)) ∙ ap (drop k) (inv .3) ∙ drop-drop k at (c .args .out .now) ∙ sym (ap (λ j. drop j (c .args .out .now)) a) in
     rw (add-one i) (
       cc,
       a ∙ ap (λ j. j + k) (inv .1) ∙ s1,
