@@ -44,7 +44,7 @@ halve-halves h l p q =
     let both = xor-low h l (l % 2 * 0x87) q (omega arith) in
     rw (and-mask l 1, odd, top, low, hi, lo, both) (omega arith)
 
-or-none : (a b : ℕ) → bitOr a b ≡ 0 → (a ≡ 0) × (b ≡ 0)
+pub or-none : (a b : ℕ) → bitOr a b ≡ 0 → (a ≡ 0) × (b ≡ 0)
 or-none a b e = let s = or-add-and a b in let l = and-le-l a b in let r = and-le-r a b in (omega arith, omega arith)
 
 -- halves are equal exactly when their numbers are

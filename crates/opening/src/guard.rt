@@ -1,5 +1,10 @@
-// Every byte of `s` is 0 after.
-fn zero(s: &mut [u8]) {
+ghost use mathlib.Core.Path.{_≡_};
+ghost use lib.ListN.{length, replicate};
+ghost use Rattle.opening.specs.Guard.{left};
+
+fn zero(s: &mut [u8])
+    ensures { λ _. ⌜ now (s .exit) ≡ replicate (length (now (s .entry))) 0 ⌝ }
+{
     for x in s.iter_mut() {
         *x = 0;
     }
@@ -12,7 +17,9 @@ pub(crate) struct Wipe<'a> {
 }
 
 impl Drop for Wipe<'_> {
-    fn drop(self) {
+    fn drop(self)
+        ensures { λ _. ⌜ now (self .exit .0) ≡ left (self .entry .armed) (now (self .entry .out)) ⌝ }
+    {
         if self.armed {
             zero(self.out);
         }

@@ -1,0 +1,4 @@
+pub mod Filling
+pub mod Turns
+pub mod Undo
+pub mod Lawful

@@ -1,0 +1,4 @@
+pub mod Computed
+pub mod Linear
+pub mod Boxes
+pub mod Mixing
