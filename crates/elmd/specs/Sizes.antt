@@ -28,3 +28,7 @@ lengthAnswer s n = refuse (eqb n 0 || ltb 16777216 n) MessageLength (Ok (streamS
 abbrev pub lastMask : Mark → ℕ → ℕ
 lastMask Whole a = a
 lastMask Filled a = seven (half a)
+
+-- how many bytes stand in a stream for a block, with the check behind it where one is due, by the blocks since the last check
+abbrev pub stride : (t since : ℕ) → ℕ
+stride t since = cond (eqb (since + 1) t) 32 16

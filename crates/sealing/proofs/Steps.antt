@@ -3,40 +3,20 @@ use mathlib.Core.Path.{_≡_, refl, sym, ap, _∙_}
 use mathlib.Core.List.{List, _++_}
 use Prim.Native.Nat.{ℕ, zero, suc, pred, _+_, _-_, _*_, _/_, _^_, _<_, _≤_}
 use native.Mathlib.Omega.{arith}
-use native.Mathlib.Nat.{suc-mul, div-add-mod'}
+use native.Mathlib.Nat.{suc-mul}
 use mathlib.Core.Logic.{⊎-elim}
-use mathlib.Core.Bool.{cond}
-use lib.Dec.{eqb}
-use Rattle.std.proofs.shelf.Tests.{cases-eq, cond-true, cond-false, eq-eqb, ne-eqb}
+use Rattle.std.proofs.shelf.Tests.{cases-eq}
 use lib.Bits.{bitXor}
-use Rattle.std.proofs.shelf.Bits.{div-mul-add, mod-below}
 use Rattle.block.specs.Field.{dbl, three, five}
 use Rattle.block.specs.Bytes.{bytesOf}
 use Rattle.block.specs.Value.{value}
-use Rattle.block.proofs.Laws.{five-dbl}
 use Rattle.cipher.specs.Meaning.{base}
 use Rattle.elmd.specs.Stream.{Frame, tOf, pow, blockAt, spot, checkSpot, sumTo, outMask, W, Y, cipherBlock, checkBlock, place}
 use Rattle.elmd.specs.Laws.{innerX}
-use Rattle.elmd.proofs.Bounds.{pow-small}
-use Rattle.elmd.proofs.Quo.{due, not-due, quo-mono}
+use Rattle.elmd.proofs.Strides.{quo-due, quo-not, since-below, five-more}
 use Rattle.elmd.proofs.Steps.{placing}
 use Rattle.sealing.specs.declared.state.Running.{Running}
-use Rattle.sealing.specs.Running.{Runs, stride}
-
--- the count since the last check tells whether one is due
-pub quo-due : (i t since : ℕ) → i ≡ i / t * t + since → since + 1 ≡ t → suc i / t ≡ suc (i / t)
-quo-due i t since c d =
-    let q : ℕ = i / t in
-    let m : suc q * t ≡ q * t + t = suc-mul q t in
-    let e : suc i ≡ suc q * t + 0 = omega arith in
-    ap (λ (n : ℕ). n / t) e ∙ div-mul-add (suc q) t 0 (omega arith)
-
-pub quo-not : (i t since : ℕ) → i ≡ i / t * t + since → (since + 1 ≡ t → ⊥) → suc i / t ≡ i / t
-quo-not i t since c n =
-    not-due i t (λ e. let q : ℕ = i / t in let d : suc i / t ≡ suc q = due i t e in let m : suc q * t ≡ q * t + t = suc-mul q t in let f : suc q * t ≡ suc i = sym (ap (λ (k : ℕ). k * t) d) ∙ e in n (omega arith))
-
-pub since-below : (i t since : ℕ) → i ≡ i / t * t + since → (t ≡ 0 → ⊥) → since < t
-since-below i t since c z = let a = div-add-mod' i t in let b = mod-below i t (omega (arith, z)) in omega arith
+use Rattle.sealing.specs.Running.{Runs}
 
 module _ (u : Frame) (m : List ℕ) (i : ℕ) (s : Running) (r : Runs u m i s) where
   pub sealed-X : (b : ℕ) → b ≡ blockAt m (suc i) → u .cipher .enc (bitXor b (value (s .mask))) ≡ innerX u m (suc i)
@@ -47,7 +27,7 @@ module _ (u : Frame) (m : List ℕ) (i : ℕ) (s : Running) (r : Runs u m i s) w
   sealed-C = let w = r .mixes in let o = r .out-masks in cc
 
   pub more-mask : (e : ℕ) → dbl (five (pow e (base (u .cipher)))) ≡ five (pow (suc e) (base (u .cipher)))
-  more-mask e = five-dbl (pow e (base (u .cipher))) (pow-small e (base (u .cipher)) (r .small))
+  more-mask e = five-more e (base (u .cipher)) (r .small)
 
   pub sealed-check : s .since + 1 ≡ tOf u → bitXor (u .cipher .dec (bitXor (innerX u m (suc i)) (dbl (value (s .w))))) (dbl (value (s .«out_mask»))) ≡ checkBlock u (innerX u m) (suc (i / tOf u))
   unfolding checkBlock outMask
@@ -119,29 +99,3 @@ module _ (u : Frame) (m : List ℕ) (i : ℕ) (s : Running) (r : Runs u m i s) w
 
   pub placed-past : s .since + 1 ≡ tOf u → place u (innerX u m) (suc i) ≡ bytesOf (cipherBlock u (innerX u m) (suc i)) ++ bytesOf (checkBlock u (innerX u m) (suc (i / tOf u)))
   placed-past d = placing u (innerX u m) (i / tOf u) (s .since) i (r .counts) .due (omega arith)
-
--- the place in the stream and the count, block by block
-pub stride-is : (i t since : ℕ) → i ≡ i / t * t + since → 16 * (i + i / t) + stride t since ≡ 16 * (suc i + suc i / t)
-stride-is i t since c =
-    ⊎-elim
-    (λ d. let q = quo-due i t since c d in let s : stride t since ≡ 32 = cond-true (eqb (since + 1) t) 32 16 (eq-eqb (since + 1) t d) in omega arith)
-    (λ n. let q = quo-not i t since c n in let s : stride t since ≡ 16 = cond-false (eqb (since + 1) t) 32 16 (ne-eqb (since + 1) t n) in omega arith)
-    (cases-eq (since + 1) t)
-
-pub since-is : (i t since : ℕ) → i ≡ i / t * t + since → suc i ≡ suc i / t * t + cond (eqb (since + 1) t) 0 (since + 1)
-since-is i t since c =
-    ⊎-elim
-    (λ d.
-    let q : suc i / t * t ≡ suc (i / t) * t = ap (λ (z : ℕ). z * t) (quo-due i t since c d) in
-    let m : suc (i / t) * t ≡ i / t * t + t = suc-mul (i / t) t in
-    let s : cond (eqb (since + 1) t) 0 (since + 1) ≡ 0 = cond-true (eqb (since + 1) t) 0 (since + 1) (eq-eqb (since + 1) t d) in
-    omega arith)
-    (λ n.
-    let q : suc i / t * t ≡ i / t * t = ap (λ (z : ℕ). z * t) (quo-not i t since c n) in
-    let s : cond (eqb (since + 1) t) 0 (since + 1) ≡ since + 1 = cond-false (eqb (since + 1) t) 0 (since + 1) (ne-eqb (since + 1) t n) in
-    omega arith)
-    (cases-eq (since + 1) t)
-
--- one more block fits where all p of them do
-pub stride-fits : (i t since p : ℕ) → i ≡ i / t * t + since → i < p → 16 * (i + i / t) + stride t since ≤ 16 * (p + p / t)
-stride-fits i t since p c h = let s = stride-is i t since c in let q = quo-mono (suc i) p t (omega arith) in omega arith

@@ -1,9 +1,7 @@
 -- What the running state of a seal stands for.
 use mathlib.Core.Path.{_≡_}
-use mathlib.Core.Bool.{cond}
 use mathlib.Core.List.{List, _++_}
 use Prim.Native.Nat.{ℕ, suc, _+_, _*_, _/_, _^_, _<_}
-use lib.Dec.{eqb}
 use lib.Bits.{bitXor}
 use lib.ListN.{take}
 use Rattle.block.specs.Field.{dbl, three, five}
@@ -15,10 +13,6 @@ use Rattle.elmd.specs.declared.refusal.Mark.{Mark}
 use Rattle.elmd.specs.Laws.{innerX, lastC, lastTag}
 use Rattle.elmd.specs.Sizes.{lastMask}
 use Rattle.sealing.specs.declared.state.Running.{Running}
-
--- how many bytes stand in the stream for a block, with the check behind it where one is due
-abbrev pub stride : (t since : ℕ) → ℕ
-stride t since = cond (eqb (since + 1) t) 32 16
 
 -- the first i blocks of a message m are sealed
 pub record Runs (u : Frame) (m : List ℕ) (i : ℕ) (s : Running) : Type 0 where

@@ -11,7 +11,7 @@ use Rattle.block.specs.Field.{three, dbl}
 use Rattle.block.specs.Bytes.{bytesOf}
 use Rattle.elmd.specs.Stream.{tOf, cipherBlock, checkBlock, place}
 use Rattle.elmd.specs.Laws.{innerX}
-use Rattle.sealing.specs.Running.{stride}
+use Rattle.elmd.specs.Sizes.{stride}
 use Rattle.sealing.proofs.Steps.{sealed-X, sealed-C, sealed-check, runs-on, runs-past, placed-on, placed-past}
 use Rattle.sealing.proofs.step.seal_block.Needs as need
 

@@ -8,8 +8,8 @@ use lib.ListN.{length, take, drop}
 use Rattle.std.proofs.shelf.Lists.{drop-drop}
 use Rattle.elmd.specs.Stream.{blockAt, place, places}
 use Rattle.elmd.specs.Laws.{innerX}
-use Rattle.sealing.specs.Running.{stride}
-use Rattle.sealing.proofs.Steps.{stride-is, since-is, stride-fits}
+use Rattle.elmd.specs.Sizes.{stride}
+use Rattle.elmd.proofs.Strides.{stride-is, since-is, stride-fits}
 use Rattle.sealing.proofs.step.seal_front.Needs as need
 
 pub seal-block-to-requires : need.seal-block-to-requires
