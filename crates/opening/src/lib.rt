@@ -92,7 +92,7 @@ fn open_part<C: Cipher>(
         }
         s = next;
     }
-    let (last, tag) = open_last(c, s, mark, Block::load(stream, 16 * (p + s.checks)));
+    let (last, tag) = open_last(c, s, mark, stream, 16 * (p + s.checks));
     let genuine = tag_matches(tag, stream, 16 * (p + 1 + s.checks));
     let Some(k) = message_bytes(last, mark, settings.short_tag, shape.tag) else {
         return Err(Refusal::BadTag);
