@@ -59,3 +59,10 @@ stride-fits i t since p c h = let s = stride-is i t since c in let q = quo-mono 
 -- the next output mask
 pub five-more : (e l : ℕ) → l < 2 ^ 128 → dbl (five (pow e l)) ≡ five (pow (suc e) l)
 five-more e l h = five-dbl (pow e l) (pow-small e l h)
+
+pub quo-next : (i t since : ℕ) → i ≡ i / t * t + since → suc i / t ≡ i / t + cond (eqb (since + 1) t) 1 0
+quo-next i t since c =
+    ⊎-elim
+    (λ d. let q = quo-due i t since c d in let s : _≡_ {A = ℕ} (cond (eqb (since + 1) t) 1 0) 1 = cond-true (eqb (since + 1) t) 1 0 (eq-eqb (since + 1) t d) in omega arith)
+    (λ n. let q = quo-not i t since c n in let s : _≡_ {A = ℕ} (cond (eqb (since + 1) t) 1 0) 0 = cond-false (eqb (since + 1) t) 1 0 (ne-eqb (since + 1) t n) in omega arith)
+    (cases-eq (since + 1) t)

@@ -1,3 +1,4 @@
 pub mod Fillings
 pub mod Tags
 pub mod Readings
+pub mod Passing

@@ -1,3 +1,4 @@
 pub mod Guard
 pub mod Last
 pub mod Reading
+pub mod Judging

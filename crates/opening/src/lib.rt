@@ -8,17 +8,18 @@ use elmd::settings::Settings;
 use elmd::shape::Shape;
 use elmd::state::ClosedHeading;
 
+mod front;
 mod guard;
 mod last;
 mod state;
 mod step;
 
+use front::open_front;
 use guard::Wipe;
 use last::message_bytes;
 use last::put_last;
 use last::tag_matches;
 use state::Reading;
-use step::open_block;
 use step::open_last;
 
 // Opens a stream whole: writes its message at the start of `out` and answers the message's length.
@@ -73,25 +74,8 @@ fn open_part<C: Cipher>(
     part: &mut [u8],
 ) -> Result<usize, Refusal> {
     let p = shape.blocks - 1;
-    let mut guard = Wipe {
-        out: part,
-        armed: true,
-    };
-    let mut s = first;
-    for i in 0..p {
-        let (next, b, good) = open_block(
-            c,
-            s,
-            settings.interval as usize,
-            stream,
-            16 * (i + s.checks),
-        );
-        b.store(guard.out, 16 * i);
-        if !good {
-            return Err(Refusal::BadCheck(next.checks));
-        }
-        s = next;
-    }
+    let mut guard = Wipe { out: part, armed: true };
+    let s = open_front(c, first, settings.interval as usize, stream, p, guard.out)?;
     let (last, tag) = open_last(c, s, mark, stream, 16 * (p + s.checks));
     let genuine = tag_matches(tag, stream, 16 * (p + 1 + s.checks));
     let Some(k) = message_bytes(last, mark, settings.short_tag, shape.tag) else {
