@@ -2,3 +2,4 @@ pub mod Fillings
 pub mod Tags
 pub mod Readings
 pub mod Passing
+pub mod Endings

@@ -16,6 +16,9 @@ use Rattle.std.proofs.shelf.Tests.{cases-eq, cond-true, cond-false, eq-eqb, ne-
 use Rattle.block.specs.Bytes.{padded}
 use Rattle.block.proofs.Laws.{xor-none}
 use Rattle.block.proofs.Halves.{or-none}
+use Rattle.elmd.specs.declared.refusal.Mark.{Mark}
+use Rattle.elmd.specs.declared.refusal.Mark.the-variants.{Filled, Whole}
+use Rattle.elmd.specs.Refusals.{markNumber}
 use Rattle.opening.specs.Last.{Ending}
 
 -- nothing has differed so far exactly when the fronts are the same
@@ -39,3 +42,7 @@ judged v mark short tag k r e some whole few filled only =
     (λ g. subst P (sym (cond-true (eqb (cond short k 16) tag) (Some k) None (eq-eqb (cond short k 16) tag g))) (record { some = some; whole = whole; few = few; filled = filled; tagged = g }))
     (λ n. subst P (sym (cond-false (eqb (cond short k 16) tag) (Some k) None (ne-eqb (cond short k 16) tag n))) (λ j b. n (ap (λ (x : ℕ). cond short x 16) (sym (only j b)) ∙ b .tagged)))
     (cases-eq (cond short k 16) tag))
+
+pub ending-le : {v : List ℕ} {short : Bool} {tag q : ℕ} (k : Mark) → Ending v (markNumber k) short tag q → q ≤ 16
+ending-le Filled e = let f = e .few refl in omega arith
+ending-le Whole e = let f = e .whole refl in omega arith

@@ -1,15 +1,23 @@
 -- What an opening finds, by the recovered quantities.
 use mathlib.Core.Path.{_≡_}
 use mathlib.Core.List.{List, _++_}
-use Prim.Native.Nat.{ℕ, pred, _+_, _-_, _*_, _/_, _≤_}
-use lib.ListN.{replicate}
+use Prim.Native.Nat.{ℕ, suc, pred, _+_, _-_, _*_, _/_, _<_, _≤_}
+use lib.ListN.{length, take, drop, replicate}
+use Rattle.std.specs.declared.option.Option.{Option}
+use Rattle.std.specs.declared.option.Option.the-variants.{Some, None}
 use Rattle.std.specs.declared.result.Result.{Result}
 use Rattle.std.specs.declared.result.Result.the-variants.{Ok, Err}
+use Rattle.block.specs.declared.raw.Block.{Block}
+use Rattle.block.specs.Value.{value}
+use Rattle.block.specs.Bytes.{bytesOf, padded}
 use Rattle.cipher.specs.Meaning.{Meaning}
 use Rattle.elmd.specs.declared.refusal.Refusal.{Refusal}
 use Rattle.elmd.specs.declared.refusal.Refusal.the-variants.{OtherLabel, Interval, CheckLength, TagLength, SpareByte, HeadingLength, MessageLength, PieceTooLong, OutputShort, BytesMissing, NoChecks, StreamLength, Over, Spoiled, StreamComplete, RoomShort, BadCheck, StreamMissing, BadTag}
-use Rattle.elmd.specs.Stream.{Frame, tOf, checks}
-use Rattle.elmd.specs.Opening.{released, Check, Checks, Right, opened}
+use Rattle.elmd.specs.declared.settings.Settings.{Settings}
+use Rattle.elmd.specs.declared.shape.Shape.{Shape}
+use Rattle.elmd.specs.Settings.{settingsBytes}
+use Rattle.elmd.specs.Stream.{Frame, tOf, checks, tagSpot, tagSize}
+use Rattle.elmd.specs.Opening.{released, Check, Checks, Right, opened, lastR, tagR}
 use Rattle.opening.specs.declared.state.Reading.{Reading}
 use Rattle.opening.specs.Reading.{Reads}
 
@@ -69,3 +77,35 @@ pub record Good (u : Frame) (s : List ℕ) (k l n : ℕ) (part : List ℕ) (q : 
 abbrev pub Judged : (u : Frame) (s : List ℕ) (k l : ℕ) → Result ℕ Refusal → (part : List ℕ) → Type 0
 Judged u s k l (Ok n) part = (q : ℕ) × Good u s k l n part q
 Judged u s k l (Err e) part = (part ≡ replicate (16 * l) 0) × Cause (FirstBad u s (checks u l)) (BadEnd u s k l) e
+
+-- the last block with q message bytes and the tag are right, whatever the checks are
+pub record EndRight (u : Frame) (s : List ℕ) (k l q : ℕ) : Type 0 where
+  pub some : 1 ≤ q
+  pub whole : k ≡ 1 → q ≡ 16
+  pub short : k ≡ 0 → q < 16
+  pub filled : padded (take q (bytesOf (lastR u s l k))) ≡ bytesOf (lastR u s l k)
+  pub sized : length s ≡ 16 * tagSpot u l + tagSize u q
+  pub tagged : take (tagSize u q) (bytesOf (tagR u s l k)) ≡ drop (16 * tagSpot u l) s
+
+-- what is handed on of a last block: its bytes before the filling
+pub record Held (v q : ℕ) : Type 0 where
+  pub most : q ≤ 16
+  pub filled : padded (take q (bytesOf v)) ≡ bytesOf v
+
+abbrev pub Ended : (u : Frame) (s : List ℕ) (k l : ℕ) → Option (Block × ℕ) → Type 0
+Ended u s k l (Some x) = EndRight u s k l (x .1) × (value (x .0) ≡ lastR u s l k)
+Ended u s k l None = (q : ℕ) → EndRight u s k l q → ⊥
+
+abbrev pub Ends : Meaning → Settings → Reading → (k : ℕ) (s : List ℕ) (p : ℕ) → Option (Block × ℕ) → Type 0
+Ends c settings state k s p r = (u : Frame) → u .cipher ≡ c → settingsBytes settings ≡ u .settings → Reads u s p state → Ended u s k (suc p) r
+
+abbrev pub Judges : Meaning → Settings → Reading → (k l : ℕ) (s : List ℕ) → Result ℕ Refusal → (part : List ℕ) → Type 0
+Judges c settings first k l s r part = (u : Frame) → u .cipher ≡ c → settingsBytes settings ≡ u .settings → Reads u s 0 first → Judged u s k l r part
+
+-- the layout fits a stream of S bytes
+pub record Fits (settings : Settings) (h : Shape) (S : ℕ) : Type 0 where
+  pub some : 1 ≤ h .blocks
+  pub most : h .blocks ≤ 1048576
+  pub h-is : h .checks ≡ pred (h .blocks) / settings .interval
+  pub size : S ≡ 16 * (h .blocks + h .checks) + h .tag
+  pub tag-most : h .tag ≤ 16

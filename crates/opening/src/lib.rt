@@ -1,4 +1,11 @@
 // Opening: a stream and mark become their message, or a refusal.
+ghost use mathlib.Core.Path.{_≡_};
+ghost use Prim.Native.Nat.{ℕ, _+_, _*_, _<_, _≤_};
+ghost use lib.ListN.{length};
+ghost use Rattle.std.specs.Options.{Cases as BySome};
+ghost use Rattle.block.specs.Value.{value};
+ghost use Rattle.elmd.specs.Refusals.{markNumber};
+ghost use Rattle.opening.specs.Judging.{Held, Ends, Judges, Fits};
 use block::Block;
 use cipher::Cipher;
 use elmd::heading::open_heading;
@@ -64,27 +71,31 @@ fn open_closed<C: Cipher>(
 
 // Opens into exactly the place of the message's blocks. Until the stream is known to be good its bytes are held by the
 // guard, which leaves zeros on each way out.
-fn open_part<C: Cipher>(
-    c: &mut C,
-    first: Reading,
-    settings: Settings,
-    shape: Shape,
-    stream: &[u8],
-    mark: Mark,
-    part: &mut [u8],
-) -> Result<usize, Refusal> {
+fn open_part<C: Cipher>(c: &mut C, first: Reading, settings: Settings, shape: Shape, stream: &[u8], mark: Mark, part: &mut [u8]) -> Result<usize, Refusal>
+    requires { ⌜ (first .since ≡ 0) × (first .checks ≡ 0) ⌝ ∗ ⌜ Fits settings shape (length (now stream)) ⌝ ∗ ⌜ length (now part) ≡ 16 * shape .blocks ⌝ }
+    ensures judged { λ r. ⌜ Judges (C·Cipher .meaning (now (c .entry))) settings first (markNumber mark) (shape .blocks) (now (stream .entry)) r (now (part .exit)) ⌝ }
+    ensures same { λ _. ⌜ C·Cipher .meaning (now (c .exit)) ≡ C·Cipher .meaning (now (c .entry)) ⌝ }
+{
     let p = shape.blocks - 1;
     let mut guard = Wipe { out: part, armed: true };
     let s = open_front(c, first, settings.interval as usize, stream, p, guard.out)?;
-    let (last, tag) = open_last(c, s, mark, stream, 16 * (p + s.checks));
-    let genuine = tag_matches(tag, stream, 16 * (p + 1 + s.checks));
-    let Some(k) = message_bytes(last, mark, settings.short_tag, shape.tag) else {
+    let Some(end) = judge_end(c, s, settings, shape.tag, stream, mark, p) else {
         return Err(Refusal::BadTag);
     };
-    if !genuine {
-        return Err(Refusal::BadTag);
-    }
-    put_last(guard.out, 16 * p, last, k);
+    put_last(guard.out, 16 * p, end.0, end.1);
     guard.armed = false;
-    Ok(16 * p + k)
+    Ok(16 * p + end.1)
+}
+
+// The last block, behind `p` others, and the number of its message bytes, where block and tag are right.
+fn judge_end<C: Cipher>(c: &mut C, s: Reading, settings: Settings, tag_length: usize, stream: &[u8], mark: Mark, p: usize) -> Option<(Block, usize)>
+    requires { ⌜ p < 16777216 ⌝ ∗ ⌜ s .checks < 16777216 ⌝ ∗ ⌜ length (now stream) ≡ 16 * (p + 1 + s .checks) + «tag_length» ⌝ ∗ ⌜ «tag_length» ≤ 16 ⌝ }
+    ensures held { λ r. ⌜ BySome r (Unit {0}) (λ x. Held (value (x .0)) (x .1)) ⌝ }
+    ensures ends { λ r. ⌜ Ends (C·Cipher .meaning (now (c .entry))) settings s (markNumber mark) (now (stream .entry)) p r ⌝ }
+    ensures same { λ _. ⌜ C·Cipher .meaning (now (c .exit)) ≡ C·Cipher .meaning (now (c .entry)) ⌝ }
+{
+    let (last, tag) = open_last(c, s, mark, stream, 16 * (p + s.checks));
+    let genuine = tag_matches(tag, stream, 16 * (p + 1 + s.checks));
+    let k = message_bytes(last, mark, settings.short_tag, tag_length)?;
+    if genuine { Some((last, k)) } else { None }
 }
