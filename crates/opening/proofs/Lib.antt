@@ -3,3 +3,4 @@ pub mod Tags
 pub mod Readings
 pub mod Passing
 pub mod Endings
+pub mod Parts

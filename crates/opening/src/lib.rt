@@ -78,7 +78,10 @@ fn open_part<C: Cipher>(c: &mut C, first: Reading, settings: Settings, shape: Sh
 {
     let p = shape.blocks - 1;
     let mut guard = Wipe { out: part, armed: true };
-    let s = open_front(c, first, settings.interval as usize, stream, p, guard.out)?;
+    let s = match open_front(c, first, settings.interval as usize, stream, p, guard.out) {
+        Ok(s) => s,
+        Err(why) => return Err(why),
+    };
     let Some(end) = judge_end(c, s, settings, shape.tag, stream, mark, p) else {
         return Err(Refusal::BadTag);
     };
