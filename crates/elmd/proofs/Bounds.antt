@@ -76,24 +76,8 @@ module _ (u : Frame) (sound : Sound u) where
       let a : ℕ = pow (pred i) (base (u .cipher)) in
       cond-both (ltb i l || eqb k 1) a (seven (half a)) Small (λ e. mask-small (pred i)) (λ e. seven-lt (half a) (half-lt a (mask-small (pred i))))
 
-  headMask-small : (i : ℕ) → Small (headMask u i)
-  headMask-small i =
-      let a : ℕ = pow (pred i) (base (u .cipher)) in
-      let b : ℕ = pow i (base (u .cipher)) in
-      cond-both (ltb (length (u .heading)) (16 * i)) (three (seven a)) (three b) Small (λ e. three-lt (seven a) (seven-lt a (mask-small (pred i)))) (λ e. three-lt b (mask-small i))
-
-  headBlock-small : (i : ℕ) → Small (headBlock u i)
-  headBlock-small zero = bytes-small (u .nonce ++ u .settings) (simp length-append (let a = sound .settings-size in let b = sound .nonce-size in omega arith)) (all-append (λ b. b < 256) (u .nonce) (u .settings) (sound .nonce-bytes) (sound .settings-bytes))
-  headBlock-small (suc i) = block-small (u .heading) (suc i) (sound .heading-bytes)
-
-  chain-small : (i : ℕ) → Small (chainHead u i)
-  chain-small zero = lit< tt
-  chain-small (suc i) =
-      xor-small (u .cipher .enc (bitXor (headBlock u i) (headMask u i))) (dbl (chainHead u i)) (enc-small (bitXor (headBlock u i) (headMask u i)) (xor-small (headBlock u i) (headMask u i) (headBlock-small i) (headMask-small i))) (dbl-lt (chainHead u i) (chain-small i))
-
   pub iv-small : Small (iv u)
-  unfolding iv
-  iv-small = chain-small (suc (blocks (u .heading)))
+  iv-small = sound .iv-lt
 
   module _ (x : ℕ → ℕ) (h : (i : ℕ) → Small (x (suc i))) where
     pub W-small : (i : ℕ) → Small (W u x i)

@@ -214,7 +214,7 @@ module _ (u : Frame) (sound : Sound u) (s : List ℕ) (bytes : Bytes s) (k p r :
         ∙ ap (λ (z : List ℕ). z ++ drop (16 * suc e) s) (grow s bytes e (omega arith))
         ∙ take-append-drop (16 * suc e) s
 
-mark-cases : (m : List ℕ) → (mark m ≡ 0) ⊎ (mark m ≡ 1)
+pub mark-cases : (m : List ℕ) → (mark m ≡ 0) ⊎ (mark m ≡ 1)
 unfolding mark
 mark-cases m = ⊎-elim (λ e. inr (cond-true (eqb (length m % 16) 0) 1 0 (eq-eqb (length m % 16) 0 e))) (λ n. inl (cond-false (eqb (length m % 16) 0) 1 0 (ne-eqb (length m % 16) 0 n))) (cases-eq (length m % 16) 0)
 

@@ -9,19 +9,16 @@ use Rattle.block.specs.Field.{dbl, three}
 use Rattle.block.specs.Bytes.{Bytes, bytesOf, padded}
 use Rattle.std.specs.shelf.Lists.{All}
 use Rattle.cipher.specs.Meaning.{Lawful, base}
-use Rattle.elmd.specs.Stream.{Frame, tOf, fOf, pow, blockAt, blocks, checks, spot, checkSpot, tagSpot, W, cipherBlock, checkBlock, place, places, tagSize, lastSize, sumTo, inMask, outMask, tagBytes, mark, X, stream}
+use Rattle.elmd.specs.Stream.{Frame, tOf, fOf, iv, pow, blockAt, blocks, checks, spot, checkSpot, tagSpot, W, cipherBlock, checkBlock, place, places, tagSize, lastSize, sumTo, inMask, outMask, tagBytes, mark, X, stream}
 use Rattle.elmd.specs.Opening.{blockIn, blocksOf, wR, xR, pR, released, Checks, Right, opened, Accepts}
 
 abbrev pub Begins : List ℕ → List ℕ → Type 0
 Begins a b = (rest : List ℕ) × (a ++ rest ≡ b)
 
+-- what the laws ask of a frame: a lawful cipher, and an IV that is a block
 pub record Sound (u : Frame) : Type 0 where
   pub lawful : Lawful (u .cipher)
-  pub settings-size : length (u .settings) ≡ 8
-  pub nonce-size : length (u .nonce) ≡ 8
-  pub settings-bytes : Bytes (u .settings)
-  pub nonce-bytes : Bytes (u .nonce)
-  pub heading-bytes : Bytes (u .heading)
+  pub iv-lt : iv u < 2 ^ 128
 
 pub record MessageOf (u : Frame) (S k : ℕ) (m : List ℕ) : Type 0 where
   pub bytes : Bytes m

@@ -4,3 +4,4 @@ pub mod Readings
 pub mod Passing
 pub mod Endings
 pub mod Parts
+pub mod Words

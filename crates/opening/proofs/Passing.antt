@@ -9,7 +9,11 @@ use native.Mathlib.Nat.{zero-div}
 use lib.Dec.{eqb}
 use Rattle.std.proofs.shelf.Tests.{cases-eq, cases-lt, true≢false, cond-true, cond-false, eq-eqb, ne-eqb}
 use Rattle.block.specs.Bytes.{bytesOf}
-use Rattle.elmd.specs.Stream.{Frame, tOf}
+use Rattle.block.specs.Field.{five}
+use Rattle.block.specs.Value.{value, value-lt}
+use Rattle.block.specs.declared.raw.Block.{Block}
+use Rattle.cipher.specs.Meaning.{base}
+use Rattle.elmd.specs.Stream.{Frame, tOf, iv, pow}
 use Rattle.elmd.specs.Opening.{pR, released, Check, Checks}
 use Rattle.elmd.proofs.Quo.{quo-mono}
 use Rattle.elmd.proofs.Strides.{quo-due, quo-not}
@@ -49,3 +53,21 @@ module _ (u : Frame) (s : List ℕ) (i : ℕ) (r r′ : Reading) (b : ℕ) (good
         before = ok .checked;
         bad = λ x. true≢false (sym (rd .judged bad .1 x) ∙ g);
       })
+
+-- before the first block
+pub first-reads : (u : Frame) (s : List ℕ) (l : Block) (r : Reading) → value l ≡ base (u .cipher) → value (r .w) ≡ iv u → value (r .mask) ≡ value l → value (r .«out_mask») ≡ five (value l) → value (r .sum) ≡ 0 → r .since ≡ 0 → r .checks ≡ 0 → Reads u s 0 r
+first-reads u s l r el ew em eo es ec ek =
+    let t : ℕ = tOf u in
+    let z : 0 / t ≡ 0 = zero-div t in
+    let e : 0 ≡ 0 + 0 / t = omega arith in
+    let q : 0 / t * t ≡ 0 = ap (λ (n : ℕ). n * t) z ∙ native.Mathlib.Nat.zero-mul t in
+    let b = value-lt l in
+    record {
+      small = omega arith;
+      mixes = ew;
+      masks = em ∙ el;
+      out-masks = eo ∙ ap five el ∙ ap (λ (n : ℕ). five (pow n (base (u .cipher)))) e;
+      sums = es;
+      counts = omega arith;
+      passed = ek ∙ sym z;
+    }

@@ -57,9 +57,9 @@ module _ (u : Frame) (s : List ℕ) (i : ℕ) (r : Reading) (ok : Reads u s i r)
       let e : suc i ≡ suc q * t = omega arith in
       let p : suc (i + q) ≡ checkSpot u (suc q) = omega arith in
       let a : k ≡ bitXor (u .cipher .dec (wR u s (suc q * t))) (five (pow (checkSpot u (suc q)) (base (u .cipher)))) =
-          ek ∙ ap (λ (z : ℕ). bitXor (u .cipher .dec (wR u s (suc i))) z) (ap dbl (ok .out-masks) ∙ five-more (i + q) (base (u .cipher)) (ok .small))
-          ∙ ap (λ (n : ℕ). bitXor (u .cipher .dec (wR u s n)) (five (pow (suc (i + q)) (base (u .cipher))))) e
-          ∙ ap (λ (n : ℕ). bitXor (u .cipher .dec (wR u s (suc q * t))) (five (pow n (base (u .cipher))))) p in
+      ek ∙ ap (λ (z : ℕ). bitXor (u .cipher .dec (wR u s (suc i))) z) (ap dbl (ok .out-masks) ∙ five-more (i + q) (base (u .cipher)) (ok .small))
+      ∙ ap (λ (n : ℕ). bitXor (u .cipher .dec (wR u s n)) (five (pow (suc (i + q)) (base (u .cipher))))) e
+      ∙ ap (λ (n : ℕ). bitXor (u .cipher .dec (wR u s (suc q * t))) (five (pow n (base (u .cipher))))) p in
       let b : v ≡ blockIn s (checkSpot u (suc q)) = ev ∙ ap (blockIn s) p in
       (λ g. sym b ∙ sym g ∙ a, λ g. a ∙ sym g ∙ sym b)
 

@@ -2,3 +2,4 @@ pub mod Guard
 pub mod Last
 pub mod Reading
 pub mod Judging
+pub mod Open

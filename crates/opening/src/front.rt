@@ -10,7 +10,14 @@ use cipher::Cipher;
 use elmd::refusal::Refusal;
 
 // Opens the first `p` blocks into `out`, up to the first check that does not hold.
-pub(crate) fn open_front<C: Cipher>(c: &mut C, first: Reading, t: usize, stream: &[u8], p: usize, out: &mut [u8]) -> Result<Reading, Refusal>
+pub(crate) fn open_front<C: Cipher>(
+    c: &mut C,
+    first: Reading,
+    t: usize,
+    stream: &[u8],
+    p: usize,
+    out: &mut [u8],
+) -> Result<Reading, Refusal>
     requires { ⌜ first .since ≡ 0 ⌝ ∗ ⌜ first .checks ≡ 0 ⌝ ∗ ⌜ p < 16777216 ⌝ ∗ ⌜ 16 * (p + p / t) ≤ length (now stream) ⌝ ∗ ⌜ 16 * p ≤ length (now out) ⌝ }
     ensures counts { λ r. ⌜ made r (λ s. s .checks ≡ p / t) ⌝ }
     ensures fronts { λ r. ⌜ Fronts (C·Cipher .meaning (now (c .entry))) first t (now (stream .entry)) p r (take (16 * p) (now (out .exit))) ⌝ }

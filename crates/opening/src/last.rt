@@ -48,7 +48,11 @@ pub(crate) fn message_bytes(last: Block, mark: Mark, short: bool, tag: usize) ->
 fn fitting(k: usize, short: bool, tag: usize) -> Option<usize>
     ensures { λ r. ⌜ r ≡ cond (eqb (cond short k 16) tag) (Some k) None ⌝ }
 {
-    if tag_length(short, k) == tag { Some(k) } else { None }
+    if tag_length(short, k) == tag {
+        Some(k)
+    } else {
+        None
+    }
 }
 
 // Whether the stream ends, from `at` on, with the first bytes of the tag; in the same time wherever they differ.

@@ -5,6 +5,9 @@ ghost use lib.ListN.{length};
 ghost use Rattle.std.specs.Options.{Cases as BySome};
 ghost use Rattle.block.specs.Value.{value};
 ghost use Rattle.elmd.specs.Refusals.{markNumber};
+ghost use Rattle.elmd.specs.Stream.{Frame};
+ghost use Rattle.elmd.specs.Heading.{frameOf, Closes};
+ghost use Rattle.opening.specs.Open.{Opened, StreamOpened};
 ghost use Rattle.opening.specs.Judging.{Held, Ends, Judges, Fits};
 use block::Block;
 use cipher::Cipher;
@@ -38,11 +41,21 @@ pub fn open<C: Cipher>(
     stream: &[u8],
     mark: Mark,
     out: &mut [u8],
-) -> Result<usize, Refusal> {
-    let mut opened = open_heading(c, settings, nonce)?;
-    opened.add(c, heading)?;
-    let closed = opened.close(c);
-    open_closed(c, closed, stream, mark, out)
+) -> Result<usize, Refusal>
+    ensures opened { λ r. ⌜ Opened (frameOf (C·Cipher .meaning (now (c .entry))) (now (settings .entry)) (now (nonce .entry)) (now (heading .entry))) (now (stream .entry)) (markNumber mark) (now (out .entry)) r (now (out .exit)) ⌝ }
+    ensures same { λ _. ⌜ C·Cipher .meaning (now (c .exit)) ≡ C·Cipher .meaning (now (c .entry)) ⌝ }
+{
+    let mut opened = match open_heading(c, settings, nonce) {
+        Ok(opened) => opened,
+        Err(why) => return Err(why),
+    };
+    match opened.add(c, heading) {
+        Ok(()) => {
+            let closed = opened.close(c);
+            open_closed(c, closed, stream, mark, out)
+        }
+        Err(why) => Err(why),
+    }
 }
 
 fn open_closed<C: Cipher>(
@@ -51,9 +64,15 @@ fn open_closed<C: Cipher>(
     stream: &[u8],
     mark: Mark,
     out: &mut [u8],
-) -> Result<usize, Refusal> {
+) -> Result<usize, Refusal>
+    ensures opened { λ r. ⌜ ((u : Frame) → u .cipher ≡ C·Cipher .meaning (now (c .entry)) → Closes u h → StreamOpened u (now (stream .entry)) (markNumber mark) (now (out .entry)) r (now (out .exit))) ⌝ }
+    ensures same { λ _. ⌜ C·Cipher .meaning (now (c .exit)) ≡ C·Cipher .meaning (now (c .entry)) ⌝ }
+{
     let (settings, base, iv) = h.into_parts();
-    let shape = settings.shape(stream.len(), mark)?;
+    let shape = match settings.shape(stream.len(), mark) {
+        Ok(shape) => shape,
+        Err(why) => return Err(why),
+    };
     let n = 16 * shape.blocks;
     if out.len() < n {
         return Err(Refusal::RoomShort);
@@ -71,13 +90,24 @@ fn open_closed<C: Cipher>(
 
 // Opens into exactly the place of the message's blocks. Until the stream is known to be good its bytes are held by the
 // guard, which leaves zeros on each way out.
-fn open_part<C: Cipher>(c: &mut C, first: Reading, settings: Settings, shape: Shape, stream: &[u8], mark: Mark, part: &mut [u8]) -> Result<usize, Refusal>
+fn open_part<C: Cipher>(
+    c: &mut C,
+    first: Reading,
+    settings: Settings,
+    shape: Shape,
+    stream: &[u8],
+    mark: Mark,
+    part: &mut [u8],
+) -> Result<usize, Refusal>
     requires { ⌜ (first .since ≡ 0) × (first .checks ≡ 0) ⌝ ∗ ⌜ Fits settings shape (length (now stream)) ⌝ ∗ ⌜ length (now part) ≡ 16 * shape .blocks ⌝ }
     ensures judged { λ r. ⌜ Judges (C·Cipher .meaning (now (c .entry))) settings first (markNumber mark) (shape .blocks) (now (stream .entry)) r (now (part .exit)) ⌝ }
     ensures same { λ _. ⌜ C·Cipher .meaning (now (c .exit)) ≡ C·Cipher .meaning (now (c .entry)) ⌝ }
 {
     let p = shape.blocks - 1;
-    let mut guard = Wipe { out: part, armed: true };
+    let mut guard = Wipe {
+        out: part,
+        armed: true,
+    };
     let s = match open_front(c, first, settings.interval as usize, stream, p, guard.out) {
         Ok(s) => s,
         Err(why) => return Err(why),
@@ -91,7 +121,15 @@ fn open_part<C: Cipher>(c: &mut C, first: Reading, settings: Settings, shape: Sh
 }
 
 // The last block, behind `p` others, and the number of its message bytes, where block and tag are right.
-fn judge_end<C: Cipher>(c: &mut C, s: Reading, settings: Settings, tag_length: usize, stream: &[u8], mark: Mark, p: usize) -> Option<(Block, usize)>
+fn judge_end<C: Cipher>(
+    c: &mut C,
+    s: Reading,
+    settings: Settings,
+    tag_length: usize,
+    stream: &[u8],
+    mark: Mark,
+    p: usize,
+) -> Option<(Block, usize)>
     requires { ⌜ p < 16777216 ⌝ ∗ ⌜ s .checks < 16777216 ⌝ ∗ ⌜ length (now stream) ≡ 16 * (p + 1 + s .checks) + «tag_length» ⌝ ∗ ⌜ «tag_length» ≤ 16 ⌝ }
     ensures held { λ r. ⌜ BySome r (Unit {0}) (λ x. Held (value (x .0)) (x .1)) ⌝ }
     ensures ends { λ r. ⌜ Ends (C·Cipher .meaning (now (c .entry))) settings s (markNumber mark) (now (stream .entry)) p r ⌝ }

@@ -16,7 +16,13 @@ use cipher::Cipher;
 use elmd::refusal::Mark;
 
 // Opens the block at `at`, which is not the last, and judges the check behind it where one is due.
-pub(crate) fn open_block<C: Cipher>(c: &mut C, s: Reading, t: usize, stream: &[u8], at: usize) -> (Reading, Block, bool)
+pub(crate) fn open_block<C: Cipher>(
+    c: &mut C,
+    s: Reading,
+    t: usize,
+    stream: &[u8],
+    at: usize,
+) -> (Reading, Block, bool)
     requires { ⌜ s .since < 16777216 ⌝ ∗ ⌜ s .checks < 16777216 ⌝ ∗ ⌜ at + stride t (s .since) ≤ length (now stream) ⌝ }
     ensures counts { λ r. ⌜ (r .0 .since ≡ cond (eqb (s .since + 1) t) 0 (s .since + 1)) × (r .0 .checks ≡ s .checks + cond (eqb (s .since + 1) t) 1 0) ⌝ }
     ensures steps { λ r. ⌜ Steps (C·Cipher .meaning (now (c .entry))) s t (now (stream .entry)) at (r .0) (value (r .1)) (r .2) ⌝ }
@@ -29,16 +35,36 @@ pub(crate) fn open_block<C: Cipher>(c: &mut C, s: Reading, t: usize, stream: &[u
     let sum = s.sum.xor(b);
     let next = s.out_mask.double();
     if s.since + 1 != t {
-        let reading = Reading { w, mask, out_mask: next, sum, since: s.since + 1, checks: s.checks };
+        let reading = Reading {
+            w,
+            mask,
+            out_mask: next,
+            sum,
+            since: s.since + 1,
+            checks: s.checks,
+        };
         return (reading, b, true);
     }
     let good = c.decrypt(w).xor(next).same(Block::load(stream, at + 16));
-    let reading = Reading { w, mask, out_mask: next.double(), sum, since: 0, checks: s.checks + 1 };
+    let reading = Reading {
+        w,
+        mask,
+        out_mask: next.double(),
+        sum,
+        since: 0,
+        checks: s.checks + 1,
+    };
     (reading, b, good)
 }
 
 // The last block, at `at` behind `p` others, with its filling; and the tag that belongs to it.
-pub(crate) fn open_last<C: Cipher>(c: &mut C, s: Reading, mark: Mark, stream: &[u8], at: usize) -> (Block, Block)
+pub(crate) fn open_last<C: Cipher>(
+    c: &mut C,
+    s: Reading,
+    mark: Mark,
+    stream: &[u8],
+    at: usize,
+) -> (Block, Block)
     requires { ⌜ at + 16 ≤ length (now stream) ⌝ }
     ensures ends { λ r. ⌜ ((p : ℕ) → at ≡ 16 * (p + s .checks) → Ends (C·Cipher .meaning (now (c .entry))) s (markNumber mark) (now (stream .entry)) p (value (r .0)) (value (r .1))) ⌝ }
     ensures same { λ _. ⌜ C·Cipher .meaning (now (c .exit)) ≡ C·Cipher .meaning (now (c .entry)) ⌝ }

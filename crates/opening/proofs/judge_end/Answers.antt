@@ -34,8 +34,7 @@ returns-then-genuine g c =
     record {
       held = record { most = ending-le (c .args .mark) e; filled = e .filled };
       ends = λ u ec es r.
-          let x = c .open-last .ensures .ends p refl u ec r in
-          (
+          let x = c .open-last .ensures .ends p refl u ec r in (
             end-right u (c .args .stream .now) (c .args .settings) (markNumber (c .args .mark)) p at (c .args .tag-length) (value (c .open-last .result .0)) (value (c .open-last .result .1)) (c .args .s) es r refl (c .pre .1 .1 .0) (x .0) (x .1) (c .in-Continue-k .k) e (c .tag-matches-genuine .ensures .0 (c .if-genuine .taken)),
             x .0,
           );

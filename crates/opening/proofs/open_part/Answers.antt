@@ -27,8 +27,7 @@ returns-in-rest g c =
     let front = c .in-Ok .ensures tt in
     record {
       judged = λ u ec es r.
-          let ok = front .fronts u ec (interval-is u (c .args .settings) es) r in
-          (
+          let ok = front .fronts u ec (interval-is u (c .args .settings) es) r in (
             c .drop-guard-in-rest .ensures ∙ ap (λ (n : ℕ). replicate n 0) kept,
             end-fails u (c .args .stream .now) (markNumber (c .args .mark)) (c .args .shape .blocks) (c .pre .1 .0 .some) (c .in-Ok .s) _ ok (c .in-rest .ensures tt .ends u (ec ∙ sym (front .same)) es (ok .reads)),
           );
@@ -41,8 +40,7 @@ returns g c =
     record {
       judged = λ u ec es r.
           let ok = front .fronts u ec (interval-is u (c .args .settings) es) r in
-          let end = c .in-Some .ensures tt .ends u (ec ∙ sym (front .same)) es (ok .reads) in
-          (
+          let end = c .in-Some .ensures tt .ends u (ec ∙ sym (front .same)) es (ok .reads) in (
             c .in-Some .end .1,
             end-good u (c .args .stream .now) (markNumber (c .args .mark)) (c .args .shape .blocks) (c .pre .1 .0 .some) (c .in-Ok .s) _ ok (c .in-Some .end .1) (value (c .in-Some .end .0)) _ (end .0) (end .1) (c .drop-guard-2 .ensures ∙ c .put-last .ensures),
           );

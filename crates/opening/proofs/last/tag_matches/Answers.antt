@@ -22,8 +22,7 @@ loop-i-again c =
     let la : length a ≡ 16 = search needs in
     let lb : i < length (drop at s) = simp length-drop (omega arith) in
     let m = differ-more a (drop at s) i d (omega arith) lb (c .loop-i .inv .0) (c .loop-i .inv .1) in
-    let e : getD (drop at s) i 0 ≡ getD s (at + i) 0 = getD-drop at s i 0 in
-    (
+    let e : getD (drop at s) i 0 ≡ getD s (at + i) 0 = getD-drop at s i 0 in (
       λ z. m .0 (ap (λ (x : ℕ). bitOr d (bitXor (getD a i 0) x)) e ∙ z),
       λ z. sym (ap (λ (x : ℕ). bitOr d (bitXor (getD a i 0) x)) e) ∙ m .1 z,
     )
@@ -36,8 +35,7 @@ returns c =
     let i = c .loop-i .i in
     let n : i ≡ length s - at = omega arith in
     let all : take i (drop at s) ≡ drop at s = take-all i (drop at s) (simp length-drop (omega arith)) in
-    let b : a ≡ bytesOf (value (c .args .tag)) = c .to-bytes-bytes .ensures in
-    (
+    let b : a ≡ bytesOf (value (c .args .tag)) = c .to-bytes-bytes .ensures in (
       λ t. let e = c .loop-i .inv .0 (eqb-true (c .loop-i .diff) 0 t) in cc,
       λ t. eq-eqb (c .loop-i .diff) 0 (c .loop-i .inv .1 (cc)),
     )
