@@ -38,6 +38,14 @@ Shaped s S k (Err e) = (e ≡ StreamLength) × ((u : Frame) → settingsBytes s 
 abbrev pub checksAmong : (places t : ℕ) → Option ℕ
 checksAmong places t = cond (eqb t 0) (Some 0) (cond (eqb (places % (t + 1)) 0) None (Some ((places - 1) / (t + 1))))
 
+abbrev pub less : ℕ → Option ℕ → Option ℕ
+less n (Some h) = Some (n - h)
+less n None = None
+
+-- l of the streams of S bytes, where there are such
+abbrev pub blocksFor : (t S : ℕ) → Option ℕ
+blocksFor t S = less ((S - 1) / 16) (checksAmong ((S - 1) / 16) t)
+
 -- the tag has sixteen bytes, or at f as many as a last block of that mark
 abbrev pub tagFits : Bool → (k tag : ℕ) → Bool
 tagFits short k tag = cond (eqb k 1) (eqb tag 16) (cond short (not (eqb tag 16)) (eqb tag 16))
