@@ -6,38 +6,37 @@
 #include "plain.h"
 
 // The cipher is picked by its label, and its keys are worked out in each call.
-// The first two work on whole blocks in place. The others answer a length, or 0 for any refusal.
-extern void bench_encrypt(uint8_t label, const uint8_t *key, size_t key_len, uint8_t *data, size_t len);
-extern void bench_decrypt(uint8_t label, const uint8_t *key, size_t key_len, uint8_t *data, size_t len);
-extern size_t bench_seal(uint8_t label, const uint8_t *key, size_t key_len, const uint8_t *number, size_t number_len,
-                         const uint8_t *settings, size_t settings_len, const uint8_t *heading, size_t heading_len,
-                         const uint8_t *message, size_t n, uint8_t *out, size_t room);
-extern size_t bench_open(uint8_t label, const uint8_t *key, size_t key_len, const uint8_t *number, size_t number_len,
-                         const uint8_t *settings, size_t settings_len, const uint8_t *heading, size_t heading_len,
-                         const uint8_t *stream, size_t len, uint8_t mark, uint8_t *out, size_t room);
+// The first works on whole blocks in place. The others answer a length, or 0 for any refusal.
+extern void proved_blocks(uint8_t label, uint8_t forth, const uint8_t *key, size_t key_len, uint8_t *data, size_t len);
+extern size_t proved_seal(uint8_t label, const uint8_t *key, size_t key_len, const uint8_t *settings, size_t settings_len,
+                        const uint8_t *nonce, size_t nonce_len, const uint8_t *heading, size_t heading_len,
+                        const uint8_t *message, size_t n, uint8_t *out, size_t room);
+extern size_t proved_open(uint8_t label, const uint8_t *key, size_t key_len, const uint8_t *settings, size_t settings_len,
+                        const uint8_t *nonce, size_t nonce_len, const uint8_t *heading, size_t heading_len,
+                        const uint8_t *stream, size_t len, uint8_t mark, uint8_t *out, size_t room);
 
 static void library_encrypt(int label, const uint8_t *key, uint8_t *data, size_t len)
 {
-    bench_encrypt((uint8_t)label, key, 16, data, len);
+    proved_blocks((uint8_t)label, 1, key, 16, data, len);
 }
 
 static void library_decrypt(int label, const uint8_t *key, uint8_t *data, size_t len)
 {
-    bench_decrypt((uint8_t)label, key, 16, data, len);
+    proved_blocks((uint8_t)label, 0, key, 16, data, len);
 }
 
 static size_t library_seal(int label, const uint8_t *key, const setting *s, const uint8_t *message, size_t n,
                            uint8_t *out, size_t room)
 {
-    return bench_seal((uint8_t)label, key, 16, s->number, 8, s->settings, 8, s->heading, s->heading_len, message, n,
-                      out, room);
+    return proved_seal((uint8_t)label, key, 16, s->settings, 8, s->number, 8, s->heading, s->heading_len, message, n,
+                     out, room);
 }
 
 static size_t library_open(int label, const uint8_t *key, const setting *s, const uint8_t *stream, size_t len, int mark,
                            uint8_t *out, size_t room)
 {
-    return bench_open((uint8_t)label, key, 16, s->number, 8, s->settings, 8, s->heading, s->heading_len, stream, len,
-                      (uint8_t)mark, out, room);
+    return proved_open((uint8_t)label, key, 16, s->settings, 8, s->number, 8, s->heading, s->heading_len, stream, len,
+                     (uint8_t)mark, out, room);
 }
 
 #endif
