@@ -1,15 +1,19 @@
 // What C may call: E and D of a cipher over many blocks, and the whole calls. The cipher is picked by its label.
 ghost use mathlib.Core.Path.{_≡_};
-ghost use mathlib.Core.Bool.{Bool, cond};
+ghost use mathlib.Core.Bool.{Bool, cond, not};
 ghost use mathlib.Core.List.{_++_};
 ghost use Prim.Native.Nat.{ℕ, _*_, _/_};
 ghost use lib.Dec.{eqb};
 ghost use lib.ListN.{length, drop};
 ghost use Rattle.block.specs.Value.{value};
 ghost use Rattle.cipher.specs.Meaning.{Meaning};
+ghost use Rattle.aes.specs.Fips197.{aes10, aes6};
+ghost use Rattle.aes.specs.contracts.ciphers.Aes10Cipher.the-impl.{ghosts as cipher10};
+ghost use Rattle.aes.specs.contracts.ciphers.Aes6Cipher.the-impl.{ghosts as cipher6};
+ghost use Rattle.elmd.specs.Refusals.{markNumber};
 ghost use Rattle.elmd.specs.Heading.{frameOf};
 ghost use Rattle.sealing.specs.Seal.{sealAnswer};
-ghost use Rattle.exports.specs.Exports.{turned, eachBlock, sealedLength};
+ghost use Rattle.exports.specs.Exports.{turned, eachBlock, sealedLength, OpenedTo, keyOf, eightOf, blocksFor, sealedOutput, sealFor, outputFor, OpenFor};
 use aes::Aes6;
 use aes::Aes6Cipher;
 use aes::Aes10;
@@ -50,7 +54,8 @@ fn seal_with<C: Cipher>(
     message: &[u8],
     out: &mut [u8],
 ) -> usize
-    ensures { λ r. ⌜ r ≡ sealedLength (sealAnswer (frameOf (C·Cipher .meaning (now (c .entry))) (now (settings .entry)) (now (nonce .entry)) (now (heading .entry))) (now (message .entry)) (length (now (out .entry)))) ⌝ }
+    ensures length { λ r. ⌜ r ≡ sealedLength (sealAnswer (frameOf (C·Cipher .meaning (now (c .entry))) (now (settings .entry)) (now (nonce .entry)) (now (heading .entry))) (now (message .entry)) (length (now (out .entry)))) ⌝ }
+    ensures output { λ _. ⌜ now (out .exit) ≡ sealedOutput (frameOf (C·Cipher .meaning (now (c .entry))) (now (settings .entry)) (now (nonce .entry)) (now (heading .entry))) (now (message .entry)) (now (out .entry)) ⌝ }
 {
     match seal(c, settings, nonce, heading, message, out) {
         Ok(pair) => pair.0,
@@ -67,12 +72,19 @@ fn open_with<C: Cipher>(
     stream: &[u8],
     mark: Mark,
     out: &mut [u8],
-) -> usize {
-    open(c, settings, nonce, heading, stream, mark, out).unwrap_or(0)
+) -> usize
+    ensures { λ r. ⌜ OpenedTo (frameOf (C·Cipher .meaning (now (c .entry))) (now (settings .entry)) (now (nonce .entry)) (now (heading .entry))) (now (stream .entry)) (markNumber mark) (now (out .entry)) (now (out .exit)) r ⌝ }
+{
+    match open(c, settings, nonce, heading, stream, mark, out) {
+        Ok(n) => n,
+        Err(_) => 0,
+    }
 }
 
 // Eight bytes, or zeros where there are not eight.
-fn eight(s: &[u8]) -> [u8; 8] {
+fn eight(s: &[u8]) -> [u8; 8]
+    ensures { λ r. ⌜ r ≡ eightOf (now (s .entry)) ⌝ }
+{
     if s.len() == 8 {
         [s[0], s[1], s[2], s[3], s[4], s[5], s[6], s[7]]
     } else {
@@ -80,14 +92,27 @@ fn eight(s: &[u8]) -> [u8; 8] {
     }
 }
 
+fn aes10(key: &[u8]) -> Aes10
+    ensures { λ r. ⌜ cipher10 .meaning r ≡ aes10 (keyOf (now (key .entry))) ⌝ }
+{
+    Aes10::new(&Block::load(key, 0).to_bytes())
+}
+
+fn aes6(key: &[u8]) -> Aes6
+    ensures { λ r. ⌜ cipher6 .meaning r ≡ aes6 (keyOf (now (key .entry))) ⌝ }
+{
+    Aes6::new(&Block::load(key, 0).to_bytes())
+}
+
 // E, or D where `forth` is 0, of each whole block of `bytes`, in place; nothing for an unknown label.
 #[unsafe(no_mangle)]
-pub extern "C" fn proved_blocks(label: u8, forth: u8, key: &[u8], bytes: &mut [u8]) {
-    let key = Block::load(key, 0);
+pub extern "C" fn proved_blocks(label: u8, forth: u8, key: &[u8], bytes: &mut [u8])
+    ensures { λ _. ⌜ now (bytes .exit) ≡ blocksFor label (keyOf (now (key .entry))) (not (eqb forth 0)) (now (bytes .entry)) ⌝ }
+{
     match label {
-        10 => turn_all(&mut Aes10::new(&key.to_bytes()), forth != 0, bytes),
-        6 => turn_all(&mut Aes6::new(&key.to_bytes()), forth != 0, bytes),
-        32 => turn_all(&mut Speck::new(key), forth != 0, bytes),
+        10 => turn_all(&mut aes10(key), forth != 0, bytes),
+        6 => turn_all(&mut aes6(key), forth != 0, bytes),
+        32 => turn_all(&mut Speck::new(Block::load(key, 0)), forth != 0, bytes),
         _ => {}
     }
 }
@@ -102,29 +127,17 @@ pub extern "C" fn proved_seal(
     heading: &[u8],
     message: &[u8],
     out: &mut [u8],
-) -> usize {
-    let key = Block::load(key, 0);
+) -> usize
+    ensures length { λ r. ⌜ r ≡ sealFor label (keyOf (now (key .entry))) (eightOf (now (settings .entry))) (eightOf (now (nonce .entry))) (now (heading .entry)) (now (message .entry)) (length (now (out .entry))) ⌝ }
+    ensures output { λ _. ⌜ now (out .exit) ≡ outputFor label (keyOf (now (key .entry))) (eightOf (now (settings .entry))) (eightOf (now (nonce .entry))) (now (heading .entry)) (now (message .entry)) (now (out .entry)) ⌝ }
+{
     let settings = eight(settings);
     let nonce = eight(nonce);
     match label {
-        10 => seal_with(
-            &mut Aes10::new(&key.to_bytes()),
-            &settings,
-            &nonce,
-            heading,
-            message,
-            out,
-        ),
-        6 => seal_with(
-            &mut Aes6::new(&key.to_bytes()),
-            &settings,
-            &nonce,
-            heading,
-            message,
-            out,
-        ),
+        10 => seal_with(&mut aes10(key), &settings, &nonce, heading, message, out),
+        6 => seal_with(&mut aes6(key), &settings, &nonce, heading, message, out),
         32 => seal_with(
-            &mut Speck::new(key),
+            &mut Speck::new(Block::load(key, 0)),
             &settings,
             &nonce,
             heading,
@@ -146,8 +159,9 @@ pub extern "C" fn proved_open(
     stream: &[u8],
     mark: u8,
     out: &mut [u8],
-) -> usize {
-    let key = Block::load(key, 0);
+) -> usize
+    ensures { λ r. ⌜ OpenFor label (keyOf (now (key .entry))) (eightOf (now (settings .entry))) (eightOf (now (nonce .entry))) (now (heading .entry)) (now (stream .entry)) mark (now (out .entry)) (now (out .exit)) r ⌝ }
+{
     let settings = eight(settings);
     let nonce = eight(nonce);
     let Some(mark) = Mark::from_number(mark) else {
@@ -155,7 +169,7 @@ pub extern "C" fn proved_open(
     };
     match label {
         10 => open_with(
-            &mut Aes10::new(&key.to_bytes()),
+            &mut aes10(key),
             &settings,
             &nonce,
             heading,
@@ -164,7 +178,7 @@ pub extern "C" fn proved_open(
             out,
         ),
         6 => open_with(
-            &mut Aes6::new(&key.to_bytes()),
+            &mut aes6(key),
             &settings,
             &nonce,
             heading,
@@ -173,7 +187,7 @@ pub extern "C" fn proved_open(
             out,
         ),
         32 => open_with(
-            &mut Speck::new(key),
+            &mut Speck::new(Block::load(key, 0)),
             &settings,
             &nonce,
             heading,
