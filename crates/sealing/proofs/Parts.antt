@@ -1,32 +1,37 @@
 -- A seal that takes its bytes in parts.
 use mathlib.Core.Path.{_≡_, refl, sym, ap, subst, _∙_}
+use mathlib.Core.Bool.{Bool, cond}
 use mathlib.Core.List.{List, [], _++_, append-assoc}
-use Prim.Native.Nat.{ℕ, suc, min, _+_, _-_, _*_, _/_, _<_, _≤_}
+use Prim.Native.Nat.{ℕ, suc, min, _+_, _-_, _*_, _/_, _%_, _<_, _≤_}
 use native.Mathlib.Omega.{arith}
-use lib.Dec.{ltb}
+use lib.Dec.{eqb, ltb}
 use lib.ListN.{length, take, drop, length-append, length-take, length-drop, take-append-drop}
 use Rattle.std.proofs.shelf.Lists.{append-nil, take-all, take-take, drop-take, drop-drop, drop-append-le, drop-all}
-use Rattle.std.proofs.shelf.Tests.{cond-false, le-ltb}
+use Rattle.std.proofs.shelf.Tests.{cond-true, cond-false, le-ltb, lt-ltb}
+use Rattle.std.specs.declared.result.Result.{Result}
 use Rattle.std.specs.declared.result.Result.the-variants.{Ok, Err}
 use Rattle.block.specs.Field.{five}
 use Rattle.block.specs.Value.{value}
 use Rattle.block.specs.Bytes.{ofBytes, padded}
 use Rattle.block.proofs.Filling.{padded-whole}
 use Rattle.cipher.specs.Meaning.{Meaning}
-use Rattle.elmd.specs.declared.refusal.Refusal.the-variants.{PieceTooLong, OutputShort}
+use Rattle.elmd.specs.declared.refusal.Refusal.{Refusal}
+use Rattle.elmd.specs.declared.refusal.Refusal.the-variants.{PieceTooLong, OutputShort, BytesMissing}
+use Rattle.elmd.specs.declared.refusal.Mark.{Mark}
 use Rattle.elmd.specs.declared.settings.Settings.{Settings}
 use Rattle.elmd.specs.declared.state.ClosedHeading.{ClosedHeading}
 use Rattle.elmd.specs.Heading.{Closes}
 use Rattle.elmd.specs.Laws.{innerX}
-use Rattle.elmd.specs.Refusals.{refuse}
+use Rattle.elmd.specs.Refusals.{refuse, markOf}
 use Rattle.elmd.specs.Settings.{settingsBytes}
+use Rattle.elmd.specs.Sizes.{streamSize}
 use Rattle.elmd.specs.Stream.{Frame, blockAt, place, places}
-use Rattle.elmd.proofs.Counts.{interval-is}
+use Rattle.elmd.proofs.Counts.{interval-is, size-parts}
 use Rattle.elmd.proofs.Quo.{quo-mono}
 use Rattle.elmd.proofs.Steps.{absorbing}
 use Rattle.sealing.specs.declared.begun.Sealer.{Sealer}
 use Rattle.sealing.specs.declared.state.Running.{Running}
-use Rattle.sealing.specs.Handing.{sealedBlocks, handedOver, putAnswer}
+use Rattle.sealing.specs.Handing.{sealedBlocks, handedOver, putAnswer, finishAnswer}
 use Rattle.sealing.specs.Running.{Runs, Steps}
 use Rattle.sealing.specs.Sealer.{Sealing, Carried, Grows, front}
 use Rattle.sealing.proofs.Whole.{first-runs}
@@ -185,3 +190,40 @@ first-sealing u h s o es ek ew em eo eu ec =
       runs = subst (λ (i : ℕ). Runs u [] i (s .running)) (sym z) (first-runs u [] (h .base) (s .running) (o .based) (ew ∙ o .started) em eo eu ec);
       held = ap (λ (i : ℕ). take i (s .pending)) none ∙ sym (ap (λ (i : ℕ). drop i []) zero);
     }
+
+left-is : (a b tag all : ℕ) → all ≡ a + 16 + b → tag ≡ b → all - a ≡ 16 + tag
+left-is a b tag all e f = omega arith
+
+-- the end: p blocks are sealed, and the last is held
+pub rest-is : (t n tag : ℕ) (f : Bool) → 1 ≤ n → tag ≡ cond f (n - 16 * sealedBlocks n n) 16 → streamSize t f n - handedOver t n n ≡ 16 + tag
+rest-is t n tag f h e =
+    let p : ℕ = sealedBlocks n n in
+    let size = size-parts t n p f h (omega arith) in
+    left-is (16 * (p + p / t)) (cond f (n - 16 * p) 16) tag (streamSize t f n) size e
+
+pub finish-answered : (t n k room w : ℕ) (f : Bool) (mark : Mark) → n ≤ k → streamSize t f n - handedOver t n n ≡ w → w ≤ room → mark ≡ markOf (cond (eqb (n % 16) 0) 1 0) → Ok (w, mark) ≡ finishAnswer t f n k room
+finish-answered t n k room w f mark h e g em =
+    let x : ℕ = streamSize t f n - handedOver t n n in
+    let good : Result (ℕ × Mark) Refusal = Ok (x, markOf (cond (eqb (n % 16) 0) 1 0)) in
+    ap (λ (i : ℕ). Ok (i, mark)) (sym e) ∙ ap (λ (i : Mark). Ok (x, i)) em
+    ∙ sym (cond-false (ltb room x) (Err OutputShort) good (le-ltb room x (subst (λ (i : ℕ). i ≤ room) (sym e) g)))
+    ∙ sym (cond-false (ltb k n) (Err BytesMissing) (refuse (ltb room x) OutputShort good) (le-ltb k n h))
+
+pub finish-refused : (t n k room w : ℕ) (f : Bool) → n ≤ k → streamSize t f n - handedOver t n n ≡ w → room < w → Err OutputShort ≡ finishAnswer t f n k room
+finish-refused t n k room w f h e g =
+    let x : ℕ = streamSize t f n - handedOver t n n in
+    let good : Result (ℕ × Mark) Refusal = Ok (x, markOf (cond (eqb (n % 16) 0) 1 0)) in
+    sym (cond-true (ltb room x) (Err OutputShort) good (lt-ltb room x (subst (λ (i : ℕ). room < i) (sym e) g)))
+    ∙ sym (cond-false (ltb k n) (Err BytesMissing) (refuse (ltb room x) OutputShort good) (le-ltb k n h))
+
+pub last-held : (u : Frame) (acc : List ℕ) (s : Sealer) (held v : ℕ) → Sealing u acc s → s .k ≡ s .n → held ≡ s .n - 16 * sealedBlocks (s .n) (s .n) → v ≡ ofBytes (padded (take 16 (drop 0 (take (held - 0) (drop 0 (s .pending))))))
+    → v ≡ blockAt acc (suc (sealedBlocks (s .n) (s .n)))
+unfolding blockAt
+last-held u acc s held v o ek eh ev =
+    let p : ℕ = sealedBlocks (s .n) (s .n) in
+    let h : held - 0 ≡ s .k - 16 * sealedBlocks (s .n) (s .k) = omega arith in
+    let q : sealedBlocks (s .n) (s .k) ≡ p = ap (sealedBlocks (s .n)) ek in
+    ev ∙ ap (λ (i : ℕ). ofBytes (padded (take 16 (take i (s .pending))))) h ∙ ap (λ (z : List ℕ). ofBytes (padded (take 16 z))) (o .held) ∙ ap (λ (i : ℕ). ofBytes (padded (take 16 (drop (16 * i) acc)))) q
+
+pub joined-end : (a c t all after : List ℕ) (tag size : ℕ) → all ≡ a ++ (c ++ take size t) → tag ≡ size → after ≡ c ++ take tag t → all ≡ a ++ after
+joined-end a c t all after tag size e f g = e ∙ ap (λ (i : ℕ). a ++ (c ++ take i t)) (sym f) ∙ ap (λ (z : List ℕ). a ++ z) (sym g)

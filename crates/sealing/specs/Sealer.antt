@@ -14,7 +14,7 @@ use Rattle.elmd.specs.Laws.{innerX}
 use Rattle.elmd.specs.Settings.{settingsBytes}
 use Rattle.elmd.specs.Stream.{Frame, places, stream}
 use Rattle.sealing.specs.declared.begun.Sealer.{Sealer}
-use Rattle.sealing.specs.Handing.{sealedBlocks}
+use Rattle.sealing.specs.Handing.{sealedBlocks, handedOver}
 use Rattle.sealing.specs.Running.{Runs}
 
 -- an answer without what is handed back
@@ -32,6 +32,13 @@ pub record Sealing (u : Frame) (acc : List ℕ) (s : Sealer) : Type 0 where
 -- what was handed over for the bytes acc
 abbrev pub front : Frame → List ℕ → Sealer → List ℕ
 front u acc s = places u (innerX u acc) (sealedBlocks (s .n) (s .k))
+
+-- how much is handed over when k bytes are in, and how much more when size more are
+abbrev pub handed : Sealer → (k : ℕ) → ℕ
+handed s k = handedOver (s .settings .interval) (s .n) k
+
+abbrev pub gained : Sealer → (size : ℕ) → ℕ
+gained s size = handed s (s .k + size) - handed s (s .k)
 
 -- a refusal hands the heading back
 abbrev pub Begun : ClosedHeading → ℕ → Result Sealer (Refusal × ClosedHeading) → Type 0

@@ -5,7 +5,7 @@ ghost use Prim.Native.Nat.{_+_, _-_, _*_, _≤_};
 ghost use lib.ListN.{length, take, drop};
 ghost use Rattle.elmd.specs.Refusals.{told};
 ghost use Rattle.sealing.specs.Handing.{beginAnswer, sealedBlocks, handedOver, putAnswer, finishAnswer};
-ghost use Rattle.sealing.specs.Sealer.{bare, Begun, Carried, Put, Handed, Grows, Finished, Ended};
+ghost use Rattle.sealing.specs.Sealer.{bare, Begun, handed, gained, Carried, Put, Handed, Grows, Finished, Ended};
 use crate::begun::Sealer;
 use crate::state::Running;
 use crate::step::seal_block;
@@ -107,14 +107,15 @@ impl Sealer {
     pub fn abandon(self) -> usize
         ensures { λ r. ⌜ r ≡ self .k ⌝ }
     {
+        let accepted = self.k;
         let Sealer {
             settings: _,
             n: _,
-            k,
+            k: _,
             running: _,
             pending: _,
         } = self;
-        k
+        accepted
     }
 }
 
@@ -143,9 +144,9 @@ fn hold(pending: &mut [u8; 16], fill: usize, part: &[u8])
 
 // Takes bytes that stay within the block begun, and seals it where it is whole and not the last.
 fn push<C: Cipher>(s: &mut Sealer, c: &mut C, part: &[u8], out: &mut [u8], at: usize) -> usize
-    requires { ⌜ now s .k + length (now part) ≤ now s .n ⌝ ∗ ⌜ now s .k - 16 * sealedBlocks (now s .n) (now s .k) + length (now part) ≤ 16 ⌝ ∗ ⌜ at + handedOver (now s .settings .interval) (now s .n) (now s .k + length (now part)) ≤ length (now out) + handedOver (now s .settings .interval) (now s .n) (now s .k) ⌝ }
+    requires { ⌜ now s .k + length (now part) ≤ now s .n ⌝ ∗ ⌜ now s .k - 16 * sealedBlocks (now s .n) (now s .k) + length (now part) ≤ 16 ⌝ ∗ ⌜ at + handed (now s) (now s .k + length (now part)) ≤ length (now out) + handed (now s) (now s .k) ⌝ }
     ensures carried { λ _. ⌜ Carried (now (s .entry)) (now (s .exit)) (length (now (part .entry))) ⌝ }
-    ensures counts { λ r. ⌜ r + handedOver (now (s .entry) .settings .interval) (now (s .entry) .n) (now (s .entry) .k) ≡ at + handedOver (now (s .entry) .settings .interval) (now (s .entry) .n) (now (s .entry) .k + length (now (part .entry))) ⌝ }
+    ensures counts { λ r. ⌜ r + handed (now (s .entry)) (now (s .entry) .k) ≡ at + handed (now (s .entry)) (now (s .entry) .k + length (now (part .entry))) ⌝ }
     ensures back { λ r. ⌜ drop r (now (out .exit)) ≡ drop r (now (out .entry)) ⌝ }
     ensures grows { λ r. ⌜ Grows (C·Cipher .meaning (now (c .entry))) (now (s .entry)) (now (part .entry)) (now (s .exit)) (take at (now (out .entry))) (take r (now (out .exit))) ⌝ }
     ensures same { λ _. ⌜ C·Cipher .meaning (now (c .exit)) ≡ C·Cipher .meaning (now (c .entry)) ⌝ }
@@ -166,10 +167,10 @@ fn push<C: Cipher>(s: &mut Sealer, c: &mut C, part: &[u8], out: &mut [u8], at: u
 }
 
 fn push_all<C: Cipher>(s: &mut Sealer, c: &mut C, piece: &[u8], out: &mut [u8])
-    requires { ⌜ now s .k + length (now piece) ≤ now s .n ⌝ ∗ ⌜ handedOver (now s .settings .interval) (now s .n) (now s .k + length (now piece)) ≤ length (now out) + handedOver (now s .settings .interval) (now s .n) (now s .k) ⌝ }
+    requires { ⌜ now s .k + length (now piece) ≤ now s .n ⌝ ∗ ⌜ handed (now s) (now s .k + length (now piece)) ≤ length (now out) + handed (now s) (now s .k) ⌝ }
     ensures carried { λ _. ⌜ Carried (now (s .entry)) (now (s .exit)) (length (now (piece .entry))) ⌝ }
-    ensures back { λ _. ⌜ drop (handedOver (now (s .entry) .settings .interval) (now (s .entry) .n) (now (s .entry) .k + length (now (piece .entry))) - handedOver (now (s .entry) .settings .interval) (now (s .entry) .n) (now (s .entry) .k)) (now (out .exit)) ≡ drop (handedOver (now (s .entry) .settings .interval) (now (s .entry) .n) (now (s .entry) .k + length (now (piece .entry))) - handedOver (now (s .entry) .settings .interval) (now (s .entry) .n) (now (s .entry) .k)) (now (out .entry)) ⌝ }
-    ensures grows { λ _. ⌜ Grows (C·Cipher .meaning (now (c .entry))) (now (s .entry)) (now (piece .entry)) (now (s .exit)) [] (take (handedOver (now (s .entry) .settings .interval) (now (s .entry) .n) (now (s .entry) .k + length (now (piece .entry))) - handedOver (now (s .entry) .settings .interval) (now (s .entry) .n) (now (s .entry) .k)) (now (out .exit))) ⌝ }
+    ensures back { λ _. ⌜ drop (gained (now (s .entry)) (length (now (piece .entry)))) (now (out .exit)) ≡ drop (gained (now (s .entry)) (length (now (piece .entry)))) (now (out .entry)) ⌝ }
+    ensures grows { λ _. ⌜ Grows (C·Cipher .meaning (now (c .entry))) (now (s .entry)) (now (piece .entry)) (now (s .exit)) [] (take (gained (now (s .entry)) (length (now (piece .entry)))) (now (out .exit))) ⌝ }
     ensures same { λ _. ⌜ C·Cipher .meaning (now (c .exit)) ≡ C·Cipher .meaning (now (c .entry)) ⌝ }
 {
     let mut i = 0;
