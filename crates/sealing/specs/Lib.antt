@@ -1,2 +1,4 @@
 pub mod Running
 pub mod Seal
+pub mod Handing
+pub mod Sealer

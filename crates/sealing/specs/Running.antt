@@ -10,6 +10,7 @@ use Rattle.block.specs.Value.{value}
 use Rattle.cipher.specs.Meaning.{Meaning, base}
 use Rattle.elmd.specs.Stream.{Frame, tOf, pow, blockAt, sumTo, W, place, places, mark}
 use Rattle.elmd.specs.declared.refusal.Mark.{Mark}
+use Rattle.elmd.specs.Refusals.{markOf}
 use Rattle.elmd.specs.Laws.{innerX, lastC, lastTag}
 use Rattle.elmd.specs.Sizes.{lastMask}
 use Rattle.sealing.specs.declared.state.Running.{Running}
@@ -40,7 +41,14 @@ endBlocks c k w mask out a =
     let x′ = c .enc (bitXor a (lastMask k (dbl mask))) in
     (bitXor (c .dec (bitXor x (three w))) out, bitXor (c .dec (bitXor (bitXor x′ (three (bitXor x (dbl w)))) 1)) (dbl out))
 
--- the last block and the tag are written behind what stands before
+-- the last block b, with its filling, and the tag are written behind what stands before
+abbrev pub LastEnds : Meaning → Running → Mark → (b size : ℕ) → (before after : List ℕ) → Type 0
+LastEnds c s k b size before after =
+    (u : Frame) (m : List ℕ) (p : ℕ) → u .cipher ≡ c → Runs u m p s → k ≡ markOf (mark m) → b ≡ blockAt m (suc p)
+    → after ≡ before ++ (bytesOf (lastC u (mark m) p (W u (innerX u m) p) (sumTo (blockAt m) (suc p)))
+    ++ take size (bytesOf (lastTag u (mark m) p (W u (innerX u m) p) (sumTo (blockAt m) (suc p)))))
+
+-- the same of a message at hand
 abbrev pub Ends : Meaning → Running → (m : List ℕ) (p size : ℕ) → (before after : List ℕ) → Type 0
 Ends c s m p size before after =
     (u : Frame) → u .cipher ≡ c → Runs u m p s

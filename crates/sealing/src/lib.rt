@@ -20,9 +20,12 @@ use elmd::settings::Settings;
 use elmd::sizes::tag_length;
 use elmd::state::ClosedHeading;
 
+mod begun;
+mod sealer;
 mod state;
 mod step;
 
+pub use begun::Sealer;
 use state::Running;
 use step::seal_end;
 use step::seal_front;

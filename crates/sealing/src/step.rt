@@ -10,7 +10,7 @@ ghost use Rattle.block.specs.Bytes.{bytesOf};
 ghost use Rattle.elmd.specs.Stream.{mark};
 ghost use Rattle.elmd.specs.Refusals.{markOf};
 ghost use Rattle.elmd.specs.Sizes.{stride};
-ghost use Rattle.sealing.specs.Running.{Steps, Fronts, endBlocks, Ends};
+ghost use Rattle.sealing.specs.Running.{Steps, Fronts, endBlocks, LastEnds, Ends};
 use crate::state::Running;
 use block::Block;
 use block::mixed;
@@ -110,6 +110,27 @@ fn put_front(b: Block, out: &mut [u8], at: usize, n: usize)
     out[at..at + n].copy_from_slice(&bytes[0..n]);
 }
 
+// Ends a stream, from its last block with its filling, with `size` bytes of the tag.
+pub(crate) fn write_end<C: Cipher>(
+    c: &mut C,
+    s: Running,
+    mark: Mark,
+    b: Block,
+    out: &mut [u8],
+    at: usize,
+    size: usize,
+)
+    requires { ⌜ size ≤ 16 ⌝ ∗ ⌜ at + 16 + size ≤ length (now out) ⌝ }
+    ensures back { λ _. ⌜ drop (at + 16 + size) (now (out .exit)) ≡ drop (at + 16 + size) (now (out .entry)) ⌝ }
+    ensures ends { λ _. ⌜ LastEnds (C·Cipher .meaning (now (c .entry))) s mark (value b) size (take at (now (out .entry))) (take (at + 16 + size) (now (out .exit))) ⌝ }
+    ensures same { λ _. ⌜ C·Cipher .meaning (now (c .exit)) ≡ C·Cipher .meaning (now (c .entry)) ⌝ }
+{
+    let sum = s.sum.xor(b);
+    let (last, tag) = end_blocks(c, s, mark, sum);
+    last.store(out, at);
+    put_front(tag, out, at + 16, size);
+}
+
 // Seals the last block, which stands behind `p` others, and ends the stream with `size` bytes of the tag.
 pub(crate) fn seal_end<C: Cipher>(
     c: &mut C,
@@ -127,9 +148,7 @@ pub(crate) fn seal_end<C: Cipher>(
     ensures same { λ _. ⌜ C·Cipher .meaning (now (c .exit)) ≡ C·Cipher .meaning (now (c .entry)) ⌝ }
 {
     let mark = Mark::of_length(message.len());
-    let sum = s.sum.xor(Block::load(message, 16 * p));
-    let (last, tag) = end_blocks(c, s, mark, sum);
-    last.store(out, at);
-    put_front(tag, out, at + 16, size);
+    let b = Block::load(message, 16 * p);
+    write_end(c, s, mark, b, out, at, size);
     mark
 }
