@@ -1,0 +1,73 @@
+-- A line as a command: a letter, a space, and digits or a dash, which stands for no bytes.
+use mathlib.Core.Bool.{Bool, cond, true, false, _&&_, _||_}
+use mathlib.Core.List.{List, [], _∷_}
+use Prim.Native.Nat.{ℕ, _-_}
+use lib.Dec.{eqb, leb}
+use lib.ListN.{length}
+use Rattle.std.specs.declared.option.Option.{Option}
+use Rattle.std.specs.declared.option.Option.the-variants.{Some, None}
+use Rattle.std.specs.Of.Vec.{vec-items}
+use Rattle.elmd.specs.Refusals.{markNumber}
+use Rattle.console.specs.declared.line.Line.{Line}
+use Rattle.console.specs.declared.line.Line.the-variants.{Key, Nonce, Settings, Heading, Message, Block, Stream, Unknown, Malformed}
+use Rattle.console.specs.Hex.{fromHex}
+
+pub data Command : Type 0 where
+  key : List ℕ → Command
+  nonce : List ℕ → Command
+  settings : List ℕ → Command
+  heading : List ℕ → Command
+  message : List ℕ → Command
+  block : List ℕ → Command
+  stream : ℕ → List ℕ → Command
+  unknown : Command
+  malformed : Command
+
+-- digits, or a dash (45) for no bytes
+abbrev pub bytesIn : List ℕ → Option (List ℕ)
+bytesIn [] = None
+bytesIn (c ∷ []) = cond (eqb c 45) (Some []) None
+bytesIn (c ∷ d ∷ rest) = fromHex (c ∷ d ∷ rest)
+
+-- one space (32), and then such bytes
+abbrev pub field : List ℕ → Option (List ℕ)
+field [] = None
+field (c ∷ rest) = cond (eqb c 32) (bytesIn rest) None
+
+abbrev pub sized : (least most : ℕ) → Option (List ℕ) → Option (List ℕ)
+sized least most None = None
+sized least most (Some b) = cond (leb least (length b) && leb (length b) most) (Some b) None
+
+abbrev pub told : (List ℕ → Command) → Option (List ℕ) → Command
+told f None = malformed
+told f (Some b) = f b
+
+-- a space, the mark 0 or 1, a space and the stream
+abbrev pub streamCommand : List ℕ → Command
+streamCommand [] = malformed
+streamCommand (c ∷ []) = malformed
+streamCommand (c ∷ m ∷ rest) = cond (eqb c 32 && (eqb m 48 || eqb m 49)) (told (stream (m - 48)) (field rest)) malformed
+
+-- the letters K, N, P, H, M, B and S
+abbrev pub readLine : List ℕ → Command
+readLine [] = unknown
+readLine (c ∷ rest) =
+    cond (eqb c 75) (told key (sized 16 16 (field rest)))
+    (cond (eqb c 78) (told nonce (sized 8 8 (field rest)))
+    (cond (eqb c 80) (told settings (sized 8 8 (field rest)))
+    (cond (eqb c 72) (told heading (field rest))
+    (cond (eqb c 77) (told message (sized 1 4096 (field rest)))
+    (cond (eqb c 66) (told block (sized 16 16 (field rest)))
+    (cond (eqb c 83) (streamCommand rest) unknown))))))
+
+-- what the program holds of a command
+abbrev pub commandOf : Line → Command
+commandOf (Key b) = key b
+commandOf (Nonce b) = nonce b
+commandOf (Settings b) = settings b
+commandOf (Heading b) = heading (vec-items b)
+commandOf (Message b) = message (vec-items b)
+commandOf (Block b) = block b
+commandOf (Stream m b) = stream (markNumber m) (vec-items b)
+commandOf Unknown = unknown
+commandOf Malformed = malformed
