@@ -1,0 +1,102 @@
+// Replies, written behind earlier ones.
+ghost use mathlib.Core.Path.{_≡_};
+ghost use mathlib.Core.List.{_++_};
+ghost use Prim.Native.Nat.{_<_};
+ghost use lib.ListN.{length};
+ghost use Rattle.std.specs.Of.Vec.{vec-items};
+ghost use Rattle.std.specs.Vec.{made};
+ghost use Rattle.elmd.specs.Refusals.{markNumber};
+ghost use Rattle.elmd.specs.Heading.{frameOf};
+ghost use Rattle.console.specs.Replies.{refusalLine, bytesLine, streamLine, blockReply, sealReply};
+use crate::hex::put_hex;
+use block::Block;
+use cipher::Cipher;
+use elmd::refusal::Mark;
+use opening::open;
+use sealing::seal;
+use std::alloc::AllocError;
+use std::alloc::Global;
+
+pub fn put_refusal(out: &mut Vec<u8>, number: u8) -> Result<(), AllocError>
+    ensures { λ r. ⌜ made r (λ _. vec-items (now (out .exit)) ≡ vec-items (now (out .entry)) ++ refusalLine number) ⌝ }
+{
+    let line = [b'R', b' ', b'0' + number / 10, b'0' + number % 10, b'\n'];
+    out.extend_from_slice(&line)
+}
+
+fn put_bytes(out: &mut Vec<u8>, letter: u8, bytes: &[u8]) -> Result<(), AllocError>
+    ensures { λ r. ⌜ made r (λ _. vec-items (now (out .exit)) ≡ vec-items (now (out .entry)) ++ bytesLine letter (now (bytes .entry))) ⌝ }
+{
+    out.push(letter)?;
+    out.push(b' ')?;
+    put_hex(out, bytes)?;
+    out.push(b'\n')?;
+    Ok(())
+}
+
+fn put_stream(out: &mut Vec<u8>, mark: Mark, stream: &[u8]) -> Result<(), AllocError>
+    ensures { λ r. ⌜ made r (λ _. vec-items (now (out .exit)) ≡ vec-items (now (out .entry)) ++ streamLine (markNumber mark) (now (stream .entry))) ⌝ }
+{
+    out.push(b'S')?;
+    out.push(b' ')?;
+    out.push(b'0' + mark.number())?;
+    out.push(b' ')?;
+    put_hex(out, stream)?;
+    out.push(b'\n')?;
+    Ok(())
+}
+
+pub fn put_block<C: Cipher>(
+    c: &mut C,
+    block: &[u8; 16],
+    out: &mut Vec<u8>,
+) -> Result<(), AllocError>
+    ensures { λ r. ⌜ made r (λ _. vec-items (now (out .exit)) ≡ vec-items (now (out .entry)) ++ blockReply (C·Cipher .meaning (now (c .entry))) (now (block .entry))) ⌝ }
+{
+    let encrypted = c.encrypt(Block::from_bytes(block)).to_bytes();
+    put_bytes(out, b'B', &encrypted)
+}
+
+pub fn put_sealed<C: Cipher>(
+    c: &mut C,
+    settings: &[u8; 8],
+    nonce: &[u8; 8],
+    heading: &[u8],
+    message: &[u8],
+    heap: Global,
+    out: &mut Vec<u8>,
+) -> Result<(), AllocError>
+    requires { ⌜ length (now message) < 4097 ⌝ }
+    ensures { λ r. ⌜ made r (λ _. vec-items (now (out .exit)) ≡ vec-items (now (out .entry)) ++ sealReply (frameOf (C·Cipher .meaning (now (c .entry))) (now (settings .entry)) (now (nonce .entry)) (now (heading .entry))) (now (message .entry))) ⌝ }
+{
+    let mut room = vec![in heap; 0u8; 2 * message.len() + 32]?;
+    match seal(c, settings, nonce, heading, message, room.as_mut_slice()) {
+        Ok((n, mark)) => put_stream(out, mark, &room.as_slice()[0..n]),
+        Err(why) => put_refusal(out, why.number()),
+    }
+}
+
+pub fn put_opened<C: Cipher>(
+    c: &mut C,
+    settings: &[u8; 8],
+    nonce: &[u8; 8],
+    heading: &[u8],
+    mark: Mark,
+    stream: &[u8],
+    heap: Global,
+    out: &mut Vec<u8>,
+) -> Result<(), AllocError> {
+    let mut room = vec![in heap; 0u8; stream.len()]?;
+    match open(
+        c,
+        settings,
+        nonce,
+        heading,
+        stream,
+        mark,
+        room.as_mut_slice(),
+    ) {
+        Ok(n) => put_bytes(out, b'M', &room.as_slice()[0..n]),
+        Err(why) => put_refusal(out, why.number()),
+    }
+}
