@@ -1,13 +1,19 @@
 // Reads lines from standard input, and writes an answer to each.
+ghost use Prim.Native.Nat.{_≤_};
+ghost use lib.ListN.{length};
+ghost use Rattle.std.specs.Vec.{made};
 use console::answers;
 use std::io;
 use std::io::Read;
 use std::io::Write;
 
+// Input past this is not read.
 const INPUT_MOST: usize = 65_536;
 
 // Fills `text` from standard input, and says how far.
-fn read_text(rt: &LibcRuntime, text: &mut [u8]) -> io::Result<usize> {
+fn read_text(rt: &LibcRuntime, text: &mut [u8]) -> io::Result<usize>
+    ensures { λ r. ⌜ made r (λ n. n ≤ length (now (text .exit))) ⌝ }
+{
     let n = text.len();
     let mut at = 0;
     while at < n {

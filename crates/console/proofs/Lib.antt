@@ -1,1 +1,5 @@
 mod Hexes
+mod Splits
+mod Joins
+mod Seals
+mod Texts

@@ -1,9 +1,9 @@
 -- A line as a command: a letter, a space, and digits or a dash, which stands for no bytes.
-use mathlib.Core.Bool.{Bool, cond, true, false, _&&_, _||_}
+use mathlib.Core.Bool.{cond, _&&_}
 use mathlib.Core.List.{List, [], _∷_}
-use Prim.Native.Nat.{ℕ, _-_}
+use Prim.Native.Nat.{ℕ}
 use lib.Dec.{eqb, leb}
-use lib.ListN.{length}
+use lib.ListN.{length, getD}
 use Rattle.std.specs.declared.option.Option.{Option}
 use Rattle.std.specs.declared.option.Option.the-variants.{Some, None}
 use Rattle.std.specs.Of.Vec.{vec-items}
@@ -25,9 +25,9 @@ pub data Command : Type 0 where
 
 -- digits, or a dash (45) for no bytes
 abbrev pub bytesIn : List ℕ → Option (List ℕ)
-bytesIn [] = None
-bytesIn (c ∷ []) = cond (eqb c 45) (Some []) None
-bytesIn (c ∷ d ∷ rest) = fromHex (c ∷ d ∷ rest)
+bytesIn text =
+    cond (eqb (length text) 0) None
+    (cond (eqb (length text) 1 && eqb (getD text 0 0) 45) (Some []) (fromHex text))
 
 -- one space (32), and then such bytes
 abbrev pub field : List ℕ → Option (List ℕ)
@@ -43,10 +43,14 @@ told f None = malformed
 told f (Some b) = f b
 
 -- a space, the mark 0 or 1, a space and the stream
+abbrev pub markedCommand : List ℕ → Command
+markedCommand [] = malformed
+markedCommand (c ∷ rest) =
+    cond (eqb c 48) (told (stream 0) (field rest)) (cond (eqb c 49) (told (stream 1) (field rest)) malformed)
+
 abbrev pub streamCommand : List ℕ → Command
 streamCommand [] = malformed
-streamCommand (c ∷ []) = malformed
-streamCommand (c ∷ m ∷ rest) = cond (eqb c 32 && (eqb m 48 || eqb m 49)) (told (stream (m - 48)) (field rest)) malformed
+streamCommand (c ∷ rest) = cond (eqb c 32) (markedCommand rest) malformed
 
 -- the letters K, N, P, H, M, B and S
 abbrev pub readLine : List ℕ → Command

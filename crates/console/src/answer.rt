@@ -1,4 +1,12 @@
 // The reply to one line.
+ghost use mathlib.Core.Path.{_≡_};
+ghost use mathlib.Core.List.{_++_};
+ghost use Rattle.std.specs.Of.Vec.{vec-items};
+ghost use Rattle.std.specs.Vec.{made};
+ghost use Rattle.elmd.specs.Refusals.{markNumber};
+ghost use Rattle.console.specs.Commands.{commandOf};
+ghost use Rattle.console.specs.Known.{knownOf};
+ghost use Rattle.console.specs.Replies.{blockAnswer, messageAnswer, StreamAnswer, Reply, Adds};
 use crate::given::Given;
 use crate::line::Line;
 use crate::reply::put_block;
@@ -52,7 +60,9 @@ macro_rules! under {
 }
 
 impl Given {
-    fn answer_block(&self, block: &[u8; 16], out: &mut Vec<u8>) -> Result<(), AllocError> {
+    fn answer_block(&self, block: &[u8; 16], out: &mut Vec<u8>) -> Result<(), AllocError>
+        ensures { λ r. ⌜ made r (λ _. vec-items (now (out .exit)) ≡ vec-items (now (out .entry)) ++ blockAnswer (knownOf (now (self .entry))) (now (block .entry))) ⌝ }
+    {
         let Some(key) = self.key else {
             return put_refusal(out, NOT_GIVEN);
         };
@@ -67,7 +77,9 @@ impl Given {
         message: &[u8],
         heap: Global,
         out: &mut Vec<u8>,
-    ) -> Result<(), AllocError> {
+    ) -> Result<(), AllocError>
+        ensures { λ r. ⌜ made r (λ _. vec-items (now (out .exit)) ≡ vec-items (now (out .entry)) ++ messageAnswer (knownOf (now (self .entry))) (now (message .entry))) ⌝ }
+    {
         let Some(key) = self.key else {
             return put_refusal(out, NOT_GIVEN);
         };
@@ -89,7 +101,9 @@ impl Given {
         stream: &[u8],
         heap: Global,
         out: &mut Vec<u8>,
-    ) -> Result<(), AllocError> {
+    ) -> Result<(), AllocError>
+        ensures { λ r. ⌜ made r (λ _. Adds (vec-items (now (out .entry))) (vec-items (now (out .exit))) (StreamAnswer (knownOf (now (self .entry))) (markNumber mark) (now (stream .entry)))) ⌝ }
+    {
         let Some(key) = self.key else {
             return put_refusal(out, NOT_GIVEN);
         };
@@ -106,7 +120,9 @@ impl Given {
     }
 
     // Writes the reply to a line behind what was written.
-    pub fn answer(&self, line: &Line, heap: Global, out: &mut Vec<u8>) -> Result<(), AllocError> {
+    pub fn answer(&self, line: &Line, heap: Global, out: &mut Vec<u8>) -> Result<(), AllocError>
+        ensures { λ r. ⌜ made r (λ _. Adds (vec-items (now (out .entry))) (vec-items (now (out .exit))) (Reply (knownOf (now (self .entry))) (commandOf (now (line .entry))))) ⌝ }
+    {
         match line {
             Line::Block(b) => self.answer_block(b, out),
             Line::Message(m) => self.answer_message(m.as_slice(), heap, out),

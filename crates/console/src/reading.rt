@@ -1,14 +1,16 @@
 // Reads lines: where one ends, and what it says.
 ghost use mathlib.Core.Path.{_≡_};
+ghost use mathlib.Core.Bool.{_&&_};
 ghost use mathlib.Core.List.{_∷_};
 ghost use Prim.Native.Nat.{_+_, _-_, _<_, _≤_};
-ghost use lib.ListN.{length, take, drop};
+ghost use lib.Dec.{eqb};
+ghost use lib.ListN.{length, getD, take, drop};
 ghost use Rattle.std.specs.Options.{mapped};
 ghost use Rattle.std.specs.Of.Vec.{vec-items};
 ghost use Rattle.std.specs.Vec.{made};
 ghost use Rattle.elmd.specs.Refusals.{markNumber};
 ghost use Rattle.console.specs.Lines.{linesOf};
-ghost use Rattle.console.specs.Commands.{Command, bytesIn, field, sized, told, streamCommand, readLine, commandOf};
+ghost use Rattle.console.specs.Commands.{Command, bytesIn, field, sized, told, markedCommand, streamCommand, readLine, commandOf};
 ghost use Rattle.console.specs.Commands.{key, nonce, settings, heading, message, block, stream};
 use crate::hex::from_hex;
 use crate::line::Line;
@@ -19,33 +21,56 @@ use std::alloc::Global;
 const MESSAGE_MOST: usize = 4096;
 
 // Where the line that begins at `start` ends.
-pub fn line_end(text: &[u8], start: usize) -> usize
+pub(crate) fn line_end(text: &[u8], start: usize) -> usize
     ensures within { λ r. ⌜ (start ≤ length (now (text .entry)) → (start ≤ r) × (r ≤ length (now (text .entry)))) ⌝ }
     ensures splits { λ r. ⌜ (start < length (now (text .entry)) → linesOf (drop start (now (text .entry))) ≡ take (r - start) (drop start (now (text .entry))) ∷ linesOf (drop (r + 1) (now (text .entry)))) ⌝ }
 {
     let mut end = start;
-    while end < text.len() && text[end] != b'\n' {
+    while end < text.len() {
+        if text[end] == b'\n' {
+            return end;
+        }
         end += 1;
     }
     end
 }
 
+// Where the line behind one that ends at `end` begins.
+pub(crate) fn next_start(text: &[u8], end: usize) -> usize
+    ensures value { λ r. ⌜ (end < length (now (text .entry)) → r ≡ end + 1) × (length (now (text .entry)) ≤ end → r ≡ end) ⌝ }
+    ensures within { λ r. ⌜ (end ≤ length (now (text .entry)) → r ≤ length (now (text .entry))) ⌝ }
+    ensures rest { λ r. ⌜ drop r (now (text .entry)) ≡ drop (end + 1) (now (text .entry)) ⌝ }
+{
+    if end < text.len() { end + 1 } else { end }
+}
+
+fn is_dash(text: &[u8]) -> bool
+    ensures { λ r. ⌜ r ≡ (eqb (length (now (text .entry))) 1 && eqb (getD (now (text .entry)) 0 0) 45) ⌝ }
+{
+    text.len() == 1 && text[0] == b'-'
+}
+
 fn bytes_in(heap: Global, digits: &[u8]) -> Result<Option<Vec<u8>>, AllocError>
     ensures { λ r. ⌜ made r (λ o. mapped vec-items o ≡ bytesIn (now (digits .entry))) ⌝ }
 {
-    match digits {
-        [] => Ok(None),
-        [b'-'] => Ok(Some(Vec::new(heap))),
-        _ => from_hex(heap, digits),
+    if digits.len() == 0 {
+        return Ok(None);
     }
+    if is_dash(digits) {
+        return Ok(Some(Vec::new(heap)));
+    }
+    from_hex(heap, digits)
 }
 
 // One space, and digits or a dash.
 fn field_bytes(heap: Global, rest: &[u8]) -> Result<Option<Vec<u8>>, AllocError>
     ensures { λ r. ⌜ made r (λ o. mapped vec-items o ≡ field (now (rest .entry))) ⌝ }
 {
-    match rest {
-        [b' ', digits @ ..] => bytes_in(heap, digits),
+    let Some((first, digits)) = rest.split_first() else {
+        return Ok(None);
+    };
+    match *first {
+        b' ' => bytes_in(heap, digits),
         _ => Ok(None),
     }
 }
@@ -135,21 +160,36 @@ fn block_line(bytes: Option<Vec<u8>>) -> Line
     }
 }
 
-fn marked_line(heap: Global, mark: Mark, rest: &[u8]) -> Result<Line, AllocError>
-    ensures { λ r. ⌜ made r (λ l. commandOf l ≡ told (stream (markNumber mark)) (field (now (rest .entry)))) ⌝ }
+fn sealed_line(mark: Mark, bytes: Option<Vec<u8>>) -> Line
+    ensures { λ r. ⌜ commandOf r ≡ told (stream (markNumber mark)) (mapped vec-items bytes) ⌝ }
 {
-    match field_bytes(heap, rest)? {
-        Some(v) => Ok(Line::Stream(mark, v)),
-        None => Ok(Line::Malformed),
+    match bytes {
+        Some(v) => Line::Stream(mark, v),
+        None => Line::Malformed,
+    }
+}
+
+fn marked_line(heap: Global, rest: &[u8]) -> Result<Line, AllocError>
+    ensures { λ r. ⌜ made r (λ l. commandOf l ≡ markedCommand (now (rest .entry))) ⌝ }
+{
+    let Some((mark, digits)) = rest.split_first() else {
+        return Ok(Line::Malformed);
+    };
+    match *mark {
+        b'0' => Ok(sealed_line(Mark::Filled, field_bytes(heap, digits)?)),
+        b'1' => Ok(sealed_line(Mark::Whole, field_bytes(heap, digits)?)),
+        _ => Ok(Line::Malformed),
     }
 }
 
 fn stream_line(heap: Global, rest: &[u8]) -> Result<Line, AllocError>
     ensures { λ r. ⌜ made r (λ l. commandOf l ≡ streamCommand (now (rest .entry))) ⌝ }
 {
-    match rest {
-        [b' ', b'0', more @ ..] => marked_line(heap, Mark::Filled, more),
-        [b' ', b'1', more @ ..] => marked_line(heap, Mark::Whole, more),
+    let Some((first, more)) = rest.split_first() else {
+        return Ok(Line::Malformed);
+    };
+    match *first {
+        b' ' => marked_line(heap, more),
         _ => Ok(Line::Malformed),
     }
 }

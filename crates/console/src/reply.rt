@@ -7,7 +7,7 @@ ghost use Rattle.std.specs.Of.Vec.{vec-items};
 ghost use Rattle.std.specs.Vec.{made};
 ghost use Rattle.elmd.specs.Refusals.{markNumber};
 ghost use Rattle.elmd.specs.Heading.{frameOf};
-ghost use Rattle.console.specs.Replies.{refusalLine, bytesLine, streamLine, blockReply, sealReply};
+ghost use Rattle.console.specs.Replies.{refusalLine, bytesLine, streamLine, blockReply, sealReply, OpenReply, Adds};
 use crate::hex::put_hex;
 use block::Block;
 use cipher::Cipher;
@@ -16,6 +16,9 @@ use opening::open;
 use sealing::seal;
 use std::alloc::AllocError;
 use std::alloc::Global;
+
+// A message of 4,096 bytes has 256 blocks, and a stream at most one check or tag behind each.
+const STREAM_MOST: usize = 8192;
 
 pub fn put_refusal(out: &mut Vec<u8>, number: u8) -> Result<(), AllocError>
     ensures { λ r. ⌜ made r (λ _. vec-items (now (out .exit)) ≡ vec-items (now (out .entry)) ++ refusalLine number) ⌝ }
@@ -27,8 +30,8 @@ pub fn put_refusal(out: &mut Vec<u8>, number: u8) -> Result<(), AllocError>
 fn put_bytes(out: &mut Vec<u8>, letter: u8, bytes: &[u8]) -> Result<(), AllocError>
     ensures { λ r. ⌜ made r (λ _. vec-items (now (out .exit)) ≡ vec-items (now (out .entry)) ++ bytesLine letter (now (bytes .entry))) ⌝ }
 {
-    out.push(letter)?;
-    out.push(b' ')?;
+    let front = [letter, b' '];
+    out.extend_from_slice(&front)?;
     put_hex(out, bytes)?;
     out.push(b'\n')?;
     Ok(())
@@ -37,10 +40,8 @@ fn put_bytes(out: &mut Vec<u8>, letter: u8, bytes: &[u8]) -> Result<(), AllocErr
 fn put_stream(out: &mut Vec<u8>, mark: Mark, stream: &[u8]) -> Result<(), AllocError>
     ensures { λ r. ⌜ made r (λ _. vec-items (now (out .exit)) ≡ vec-items (now (out .entry)) ++ streamLine (markNumber mark) (now (stream .entry))) ⌝ }
 {
-    out.push(b'S')?;
-    out.push(b' ')?;
-    out.push(b'0' + mark.number())?;
-    out.push(b' ')?;
+    let front = [b'S', b' ', b'0' + mark.number(), b' '];
+    out.extend_from_slice(&front)?;
     put_hex(out, stream)?;
     out.push(b'\n')?;
     Ok(())
@@ -57,6 +58,24 @@ pub fn put_block<C: Cipher>(
     put_bytes(out, b'B', &encrypted)
 }
 
+fn put_sealed_in<C: Cipher>(
+    c: &mut C,
+    settings: &[u8; 8],
+    nonce: &[u8; 8],
+    heading: &[u8],
+    message: &[u8],
+    room: &mut [u8],
+    out: &mut Vec<u8>,
+) -> Result<(), AllocError>
+    ensures { λ r. ⌜ made r (λ _. vec-items (now (out .exit)) ≡ vec-items (now (out .entry)) ++ sealReply (frameOf (C·Cipher .meaning (now (c .entry))) (now (settings .entry)) (now (nonce .entry)) (now (heading .entry))) (now (message .entry)) (length (now (room .entry)))) ⌝ }
+{
+    match seal(c, settings, nonce, heading, message, room) {
+        Ok((n, mark)) => put_stream(out, mark, &room[0..n]),
+        Err(why) => put_refusal(out, why.number()),
+    }
+}
+
+// The stream of a message of up to 4,096 bytes, or why there is none.
 pub fn put_sealed<C: Cipher>(
     c: &mut C,
     settings: &[u8; 8],
@@ -66,16 +85,39 @@ pub fn put_sealed<C: Cipher>(
     heap: Global,
     out: &mut Vec<u8>,
 ) -> Result<(), AllocError>
-    requires { ⌜ length (now message) < 4097 ⌝ }
-    ensures { λ r. ⌜ made r (λ _. vec-items (now (out .exit)) ≡ vec-items (now (out .entry)) ++ sealReply (frameOf (C·Cipher .meaning (now (c .entry))) (now (settings .entry)) (now (nonce .entry)) (now (heading .entry))) (now (message .entry))) ⌝ }
+    ensures { λ r. ⌜ made r (λ _. vec-items (now (out .exit)) ≡ vec-items (now (out .entry)) ++ sealReply (frameOf (C·Cipher .meaning (now (c .entry))) (now (settings .entry)) (now (nonce .entry)) (now (heading .entry))) (now (message .entry)) 8192) ⌝ }
 {
-    let mut room = vec![in heap; 0u8; 2 * message.len() + 32]?;
-    match seal(c, settings, nonce, heading, message, room.as_mut_slice()) {
-        Ok((n, mark)) => put_stream(out, mark, &room.as_slice()[0..n]),
+    let mut room = vec![in heap; 0u8; STREAM_MOST]?;
+    put_sealed_in(
+        c,
+        settings,
+        nonce,
+        heading,
+        message,
+        room.as_mut_slice(),
+        out,
+    )
+}
+
+fn put_opened_in<C: Cipher>(
+    c: &mut C,
+    settings: &[u8; 8],
+    nonce: &[u8; 8],
+    heading: &[u8],
+    mark: Mark,
+    stream: &[u8],
+    room: &mut [u8],
+    out: &mut Vec<u8>,
+) -> Result<(), AllocError>
+    ensures { λ r. ⌜ made r (λ _. Adds (vec-items (now (out .entry))) (vec-items (now (out .exit))) (OpenReply (frameOf (C·Cipher .meaning (now (c .entry))) (now (settings .entry)) (now (nonce .entry)) (now (heading .entry))) (markNumber mark) (now (stream .entry)))) ⌝ }
+{
+    match open(c, settings, nonce, heading, stream, mark, room) {
+        Ok(n) => put_bytes(out, b'M', &room[0..n]),
         Err(why) => put_refusal(out, why.number()),
     }
 }
 
+// The message of a stream, or why there is none.
 pub fn put_opened<C: Cipher>(
     c: &mut C,
     settings: &[u8; 8],
@@ -85,18 +127,18 @@ pub fn put_opened<C: Cipher>(
     stream: &[u8],
     heap: Global,
     out: &mut Vec<u8>,
-) -> Result<(), AllocError> {
+) -> Result<(), AllocError>
+    ensures { λ r. ⌜ made r (λ _. Adds (vec-items (now (out .entry))) (vec-items (now (out .exit))) (OpenReply (frameOf (C·Cipher .meaning (now (c .entry))) (now (settings .entry)) (now (nonce .entry)) (now (heading .entry))) (markNumber mark) (now (stream .entry)))) ⌝ }
+{
     let mut room = vec![in heap; 0u8; stream.len()]?;
-    match open(
+    put_opened_in(
         c,
         settings,
         nonce,
         heading,
-        stream,
         mark,
+        stream,
         room.as_mut_slice(),
-    ) {
-        Ok(n) => put_bytes(out, b'M', &room.as_slice()[0..n]),
-        Err(why) => put_refusal(out, why.number()),
-    }
+        out,
+    )
 }
