@@ -3,3 +3,4 @@ mod Splits
 mod Joins
 mod Seals
 mod Texts
+mod Opens

@@ -4,7 +4,7 @@ use mathlib.Core.Bool.{cond}
 use mathlib.Core.List.{List, [], _∷_, _++_}
 use Prim.Native.Nat.{ℕ, _+_, _*_, _/_, _%_}
 use lib.Dec.{eqb}
-use lib.ListN.{length, getD}
+use lib.ListN.{length, getD, take}
 use Rattle.std.specs.declared.option.Option.{Option}
 use Rattle.std.specs.declared.option.Option.the-variants.{Some, None}
 use Rattle.std.specs.declared.result.Result.{Result}
@@ -18,7 +18,10 @@ use Rattle.elmd.specs.declared.refusal.Mark.{Mark}
 use Rattle.elmd.specs.Refusals.{number, markNumber}
 use Rattle.elmd.specs.Stream.{Frame, stream as streamOf}
 use Rattle.elmd.specs.Heading.{frameOf}
+use Rattle.elmd.specs.declared.refusal.Refusal.the-variants.{StreamLength}
+use Rattle.elmd.specs.Laws.{MessageOf}
 use Rattle.sealing.specs.Seal.{sealAnswer}
+use Rattle.opening.specs.Open.{SealOf, NoSeal, frontAnswer, Opened}
 use Rattle.console.specs.Hex.{toHex}
 use Rattle.console.specs.Commands.{Command, key, nonce, settings, heading, message, block, stream, unknown, malformed, readLine}
 use Rattle.console.specs.Known.{Known, nothing, after}
@@ -85,9 +88,22 @@ abbrev pub WherePicked : Option Meaning → (out : List ℕ) → (Meaning → Ty
 WherePicked None out P = out ≡ refusalLine 11
 WherePicked (Some c) out P = P c
 
--- S: the message of the stream, or the opening's refusal
-abbrev pub OpenReply : Frame → (mark : ℕ) → (s out : List ℕ) → Type 0
-OpenReply u k s out = Unit {0}
+-- S: the message of which this is the stream and mark; else the refusal of the settings or the heading, of a length that no
+-- message's stream has, of the first check that does not hold, or of the end
+pub record OpenReply (u : Frame) (mark : ℕ) (s out : List ℕ) : Type 0 where
+  pub early : (e : Refusal) → frontAnswer u ≡ Err e → out ≡ refusalLine (number e)
+  pub no-length : frontAnswer u ≡ Ok tt → ((m : List ℕ) → MessageOf u (length s) mark m → ⊥) → out ≡ refusalLine (number StreamLength)
+  pub opens : frontAnswer u ≡ Ok tt → (m : List ℕ) → SealOf u s mark m → out ≡ bytesLine 77 m
+  pub refuses : frontAnswer u ≡ Ok tt → (m : List ℕ) → MessageOf u (length s) mark m → ((n : List ℕ) → SealOf u s mark n → ⊥)
+      → (e : Refusal) × NoSeal u s mark (Err e) × (out ≡ refusalLine (number e))
+
+-- what is shown of an opening into a room
+abbrev pub openLine : Result ℕ Refusal → (place : List ℕ) → List ℕ
+openLine (Ok n) place = bytesLine 77 (take n place)
+openLine (Err e) place = refusalLine (number e)
+
+abbrev pub Shown : Frame → (mark : ℕ) → (s room out : List ℕ) → Type 0
+Shown u k s room out = (r : Result ℕ Refusal) × (place : List ℕ) × Opened u s k room r place × (out ≡ openLine r place)
 
 abbrev pub StreamAnswer : Known → (mark : ℕ) → (s out : List ℕ) → Type 0
 StreamAnswer g k s out =

@@ -7,7 +7,7 @@ ghost use Rattle.std.specs.Of.Vec.{vec-items};
 ghost use Rattle.std.specs.Vec.{made};
 ghost use Rattle.elmd.specs.Refusals.{markNumber};
 ghost use Rattle.elmd.specs.Heading.{frameOf};
-ghost use Rattle.console.specs.Replies.{refusalLine, bytesLine, streamLine, blockReply, sealReply, OpenReply, Adds};
+ghost use Rattle.console.specs.Replies.{refusalLine, bytesLine, streamLine, blockReply, sealReply, OpenReply, Shown, Adds};
 use crate::hex::put_hex;
 use block::Block;
 use cipher::Cipher;
@@ -109,7 +109,7 @@ fn put_opened_in<C: Cipher>(
     room: &mut [u8],
     out: &mut Vec<u8>,
 ) -> Result<(), AllocError>
-    ensures { λ r. ⌜ made r (λ _. Adds (vec-items (now (out .entry))) (vec-items (now (out .exit))) (OpenReply (frameOf (C·Cipher .meaning (now (c .entry))) (now (settings .entry)) (now (nonce .entry)) (now (heading .entry))) (markNumber mark) (now (stream .entry)))) ⌝ }
+    ensures { λ r. ⌜ made r (λ _. Adds (vec-items (now (out .entry))) (vec-items (now (out .exit))) (Shown (frameOf (C·Cipher .meaning (now (c .entry))) (now (settings .entry)) (now (nonce .entry)) (now (heading .entry))) (markNumber mark) (now (stream .entry)) (now (room .entry)))) ⌝ }
 {
     match open(c, settings, nonce, heading, stream, mark, room) {
         Ok(n) => put_bytes(out, b'M', &room[0..n]),
