@@ -4,3 +4,4 @@ mod Joins
 mod Seals
 mod Texts
 mod Opens
+mod Sizes

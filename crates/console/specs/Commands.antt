@@ -1,7 +1,7 @@
 -- A line as a command: a letter, a space, and digits or a dash, which stands for no bytes.
 use mathlib.Core.Bool.{cond, _&&_}
 use mathlib.Core.List.{List, [], _∷_}
-use Prim.Native.Nat.{ℕ}
+use Prim.Native.Nat.{ℕ, _≤_}
 use lib.Dec.{eqb, leb}
 use lib.ListN.{length, getD}
 use Rattle.std.specs.declared.option.Option.{Option}
@@ -63,6 +63,18 @@ readLine (c ∷ rest) =
     (cond (eqb c 77) (told message (sized 1 4096 (field rest)))
     (cond (eqb c 66) (told block (sized 16 16 (field rest)))
     (cond (eqb c 83) (streamCommand rest) unknown))))))
+
+-- a message that was read has at most 4,096 bytes
+abbrev pub Sized : Command → Type 0
+Sized (key b) = Unit {0}
+Sized (nonce b) = Unit {0}
+Sized (settings b) = Unit {0}
+Sized (heading b) = Unit {0}
+Sized (message b) = length b ≤ 4096
+Sized (block b) = Unit {0}
+Sized (stream m b) = Unit {0}
+Sized unknown = Unit {0}
+Sized malformed = Unit {0}
 
 -- what the program holds of a command
 abbrev pub commandOf : Line → Command

@@ -55,8 +55,9 @@ abbrev pub sealLine : Frame → (m : List ℕ) → Result (ℕ × Mark) Refusal 
 sealLine u m (Ok p) = streamLine (markNumber (p .1)) (streamOf u m)
 sealLine u m (Err e) = refusalLine (number e)
 
-abbrev pub sealReply : Frame → (m : List ℕ) (room : ℕ) → List ℕ
-sealReply u m room = sealLine u m (sealAnswer u m room)
+-- into room for the whole stream
+abbrev pub sealReply : Frame → (m : List ℕ) → List ℕ
+sealReply u m = sealLine u m (sealAnswer u m (length (streamOf u m)))
 
 -- what has to be given, and a cipher that the settings name
 abbrev pub given : Option (List ℕ) → (List ℕ → List ℕ) → List ℕ
@@ -73,11 +74,10 @@ under p k f = picked (cipherOf (getD p 0 0) (ofBytes k)) f
 abbrev pub blockAnswer : Known → List ℕ → List ℕ
 blockAnswer g b = given (g .the-key) (λ k. given (g .the-settings) (λ p. under p k (λ c. blockReply c b)))
 
--- the room holds every stream of 4,096 bytes
 abbrev pub messageAnswer : Known → List ℕ → List ℕ
 messageAnswer g m =
     given (g .the-key) (λ k. given (g .the-settings) (λ p. given (g .the-nonce) (λ n. given (g .the-heading) (λ h.
-    under p k (λ c. sealReply (frameOf c p n h) m 8192)))))
+    under p k (λ c. sealReply (frameOf c p n h) m)))))
 
 -- the same of a relation
 abbrev pub WhereGiven : Option (List ℕ) → (out : List ℕ) → (List ℕ → Type 0) → Type 0

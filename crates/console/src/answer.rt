@@ -1,10 +1,12 @@
 // The reply to one line.
 ghost use mathlib.Core.Path.{_≡_};
 ghost use mathlib.Core.List.{_++_};
+ghost use Prim.Native.Nat.{_≤_};
+ghost use lib.ListN.{length};
 ghost use Rattle.std.specs.Of.Vec.{vec-items};
 ghost use Rattle.std.specs.Vec.{made};
 ghost use Rattle.elmd.specs.Refusals.{markNumber};
-ghost use Rattle.console.specs.Commands.{commandOf};
+ghost use Rattle.console.specs.Commands.{commandOf, Sized};
 ghost use Rattle.console.specs.Known.{knownOf};
 ghost use Rattle.console.specs.Replies.{blockAnswer, messageAnswer, StreamAnswer, Reply, Adds};
 use crate::given::Given;
@@ -78,6 +80,7 @@ impl Given {
         heap: Global,
         out: &mut Vec<u8>,
     ) -> Result<(), AllocError>
+        requires { ⌜ length (now message) ≤ 4096 ⌝ }
         ensures { λ r. ⌜ made r (λ _. vec-items (now (out .exit)) ≡ vec-items (now (out .entry)) ++ messageAnswer (knownOf (now (self .entry))) (now (message .entry))) ⌝ }
     {
         let Some(key) = self.key else {
@@ -121,6 +124,7 @@ impl Given {
 
     // Writes the reply to a line behind what was written.
     pub fn answer(&self, line: &Line, heap: Global, out: &mut Vec<u8>) -> Result<(), AllocError>
+        requires { ⌜ Sized (commandOf (now line)) ⌝ }
         ensures { λ r. ⌜ made r (λ _. Adds (vec-items (now (out .entry))) (vec-items (now (out .exit))) (Reply (knownOf (now (self .entry))) (commandOf (now (line .entry))))) ⌝ }
     {
         match line {

@@ -1,13 +1,14 @@
 // Replies, written behind earlier ones.
 ghost use mathlib.Core.Path.{_≡_};
 ghost use mathlib.Core.List.{_++_};
-ghost use Prim.Native.Nat.{_<_};
+ghost use Prim.Native.Nat.{_≤_};
 ghost use lib.ListN.{length};
 ghost use Rattle.std.specs.Of.Vec.{vec-items};
 ghost use Rattle.std.specs.Vec.{made};
 ghost use Rattle.elmd.specs.Refusals.{markNumber};
 ghost use Rattle.elmd.specs.Heading.{frameOf};
-ghost use Rattle.console.specs.Replies.{refusalLine, bytesLine, streamLine, blockReply, sealReply, OpenReply, Shown, Adds};
+ghost use Rattle.sealing.specs.Seal.{sealAnswer};
+ghost use Rattle.console.specs.Replies.{refusalLine, bytesLine, streamLine, blockReply, sealLine, sealReply, OpenReply, Shown, Adds};
 use crate::hex::put_hex;
 use block::Block;
 use cipher::Cipher;
@@ -67,7 +68,7 @@ fn put_sealed_in<C: Cipher>(
     room: &mut [u8],
     out: &mut Vec<u8>,
 ) -> Result<(), AllocError>
-    ensures { λ r. ⌜ made r (λ _. vec-items (now (out .exit)) ≡ vec-items (now (out .entry)) ++ sealReply (frameOf (C·Cipher .meaning (now (c .entry))) (now (settings .entry)) (now (nonce .entry)) (now (heading .entry))) (now (message .entry)) (length (now (room .entry)))) ⌝ }
+    ensures { λ r. ⌜ made r (λ _. vec-items (now (out .exit)) ≡ vec-items (now (out .entry)) ++ sealLine (frameOf (C·Cipher .meaning (now (c .entry))) (now (settings .entry)) (now (nonce .entry)) (now (heading .entry))) (now (message .entry)) (sealAnswer (frameOf (C·Cipher .meaning (now (c .entry))) (now (settings .entry)) (now (nonce .entry)) (now (heading .entry))) (now (message .entry)) (length (now (room .entry))))) ⌝ }
 {
     match seal(c, settings, nonce, heading, message, room) {
         Ok((n, mark)) => put_stream(out, mark, &room[0..n]),
@@ -85,7 +86,8 @@ pub fn put_sealed<C: Cipher>(
     heap: Global,
     out: &mut Vec<u8>,
 ) -> Result<(), AllocError>
-    ensures { λ r. ⌜ made r (λ _. vec-items (now (out .exit)) ≡ vec-items (now (out .entry)) ++ sealReply (frameOf (C·Cipher .meaning (now (c .entry))) (now (settings .entry)) (now (nonce .entry)) (now (heading .entry))) (now (message .entry)) 8192) ⌝ }
+    requires { ⌜ length (now message) ≤ 4096 ⌝ }
+    ensures { λ r. ⌜ made r (λ _. vec-items (now (out .exit)) ≡ vec-items (now (out .entry)) ++ sealReply (frameOf (C·Cipher .meaning (now (c .entry))) (now (settings .entry)) (now (nonce .entry)) (now (heading .entry))) (now (message .entry))) ⌝ }
 {
     let mut room = vec![in heap; 0u8; STREAM_MOST]?;
     put_sealed_in(

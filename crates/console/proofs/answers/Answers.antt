@@ -1,9 +1,18 @@
+use mathlib.Core.Path.{subst, sym}
+use Prim.Native.Nat.{_-_}
 use native.Mathlib.Omega.{arith}
+use lib.ListN.{take, drop}
 use Rattle.std.specs.Of.Vec.{vec-items}
-use Rattle.console.specs.Commands.{commandOf}
+use Rattle.console.specs.Commands.{commandOf, Sized}
 use Rattle.console.specs.Known.{knownOf}
+use Rattle.console.proofs.Sizes.{read-sized}
 use Rattle.console.proofs.Texts.{goes-step, goes-end}
 use Rattle.console.proofs.answers.Needs as need
+
+pub answer-requires : need.answer-requires
+answer-requires c κs =
+    subst Sized (sym (c .in-Continue-line .ensures tt))
+    (read-sized (take (c .line-end-end .result - c .loop-at .at) (drop (c .loop-at .at) (c .args .text .now))))
 
 pub loop-at-again : need.loop-at-again
 loop-at-again c = (
