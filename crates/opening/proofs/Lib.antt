@@ -5,3 +5,4 @@ pub mod Passing
 pub mod Endings
 pub mod Parts
 pub mod Words
+pub mod Runs

@@ -89,6 +89,7 @@ pub record EndRight (u : Frame) (s : List ℕ) (k l q : ℕ) : Type 0 where
 
 -- what is handed on of a last block: its bytes before the filling
 pub record Held (v q : ℕ) : Type 0 where
+  pub some : 1 ≤ q
   pub most : q ≤ 16
   pub filled : padded (take q (bytesOf v)) ≡ bytesOf v
 

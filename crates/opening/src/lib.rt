@@ -21,6 +21,9 @@ use elmd::state::ClosedHeading;
 mod front;
 mod guard;
 mod last;
+pub mod opener;
+mod place;
+mod segment;
 mod state;
 mod step;
 
@@ -29,6 +32,7 @@ use guard::Wipe;
 use last::message_bytes;
 use last::put_last;
 use last::tag_matches;
+pub use place::Opener;
 use state::Reading;
 use step::open_last;
 

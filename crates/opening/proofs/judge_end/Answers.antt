@@ -22,7 +22,7 @@ pub returns-then-genuine : need.returns-then-genuine
 returns-then-genuine g c =
     let e = c .in-Continue-k .ensures tt in
     record {
-      held = record { most = ending-le (c .args .mark) e; filled = e .filled };
+      held = record { some = e .some; most = ending-le (c .args .mark) e; filled = e .filled };
       ends = λ u str p ec es ed r.
           let x = c .open-last .ensures .ends u str p ec ed r in (
             end-right u str (c .args .settings) (markNumber (c .args .mark)) p (c .args .tag-length) (value (c .open-last .result .0)) (value (c .open-last .result .1)) (c .args .s) es r (x .0) (x .1) (c .args .stream .now) (c .args .at) (c .pre .0) ed (c .in-Continue-k .k) e (c .tag-matches-genuine .ensures .0 (c .if-genuine .taken)),
