@@ -6,3 +6,6 @@ pub mod Endings
 pub mod Parts
 pub mod Words
 pub mod Runs
+pub mod Standings
+pub mod Openings
+pub mod Calls

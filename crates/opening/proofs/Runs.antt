@@ -2,13 +2,13 @@
 use mathlib.Core.Path.{_≡_, refl, sym, ap, subst, _∙_}
 use mathlib.Core.Bool.{Bool, true, false, cond}
 use mathlib.Core.List.{List, [], _++_, append-assoc}
-use Prim.Native.Nat.{ℕ, suc, _+_, _*_, _/_, _<_, _≤_}
+use Prim.Native.Nat.{ℕ, suc, _+_, _-_, _*_, _/_, _<_, _≤_}
 use native.Mathlib.Omega.{arith}
 use native.Mathlib.Nat.{add-zero}
 use lib.Dec.{eqb}
-use lib.ListN.{length, take, drop}
+use lib.ListN.{length, take, drop, take-append-drop}
 use Rattle.std.specs.Orderings.{Decides}
-use Rattle.std.proofs.shelf.Lists.{append-nil, drop-drop}
+use Rattle.std.proofs.shelf.Lists.{append-nil, drop-drop, take-take, drop-take, take-at, drop-at}
 use Rattle.std.proofs.shelf.Tests.{eq-eqb, ne-eqb}
 use Rattle.block.specs.Bytes.{bytesOf}
 use Rattle.elmd.specs.Stream.{Frame, tOf}
@@ -85,3 +85,30 @@ module _ (u : Frame) (st : List ℕ) (t i k n : ℕ) (first s : Reading) (held0 
             let p = cnt .between (omega arith) .0 in
             subst (λ (z : ℕ). Decides good (Check u st (suc z))) quo (rd .judged (omega arith));
       }
+
+-- the end behind n blocks that were opened in their place
+module _ (u : Frame) (st : List ℕ) (t i n tag : ℕ) (first s : Reading) (held held′ : List ℕ) (et : tOf u ≡ t) (nt : n < t) (there : take (16 * n + 16 + tag) held ≡ drop (16 * (i + i / tOf u)) st) (r0 : Reads u st i first) where
+  pub front-there : There u held st i (16 * n + 16)
+  front-there = sym (take-take (16 * n + 16) (16 * n + 16 + tag) held (omega arith)) ∙ ap (take (16 * n + 16)) there
+
+  module _ (cnt : Counted first t n s) (rest : drop (16 * n) held′ ≡ drop (16 * n) held) (reads : Reads u st (i + n) s) where
+    pub end-there : drop (16 * n) (take (16 * n + 16 + tag - 0) held′) ≡ drop (16 * (i + n + (i + n) / tOf u)) st
+    end-there =
+        let m : ℕ = 16 + tag in
+        let e : 16 * n + 16 + tag - 0 ≡ 16 * n + m = omega arith in
+        let e2 : 16 * n + m ≡ 16 * n + 16 + tag = omega arith in
+        let x : ℕ = 16 * (i + i / tOf u) in
+        let q : (i + n) / tOf u ≡ i / tOf u = sym (reads .passed) ∙ cnt .between nt .1 ∙ r0 .passed in
+        let f : x + 16 * n ≡ 16 * (i + n + (i + n) / tOf u) = omega arith in
+        ap (λ (z : ℕ). drop (16 * n) (take z held′)) e ∙ drop-take (16 * n) m held′ ∙ ap (take m) rest ∙ sym (drop-take (16 * n) m held)
+        ∙ ap (λ (z : ℕ). drop (16 * n) (take z held)) e2 ∙ ap (drop (16 * n)) there ∙ drop-drop (16 * n) x st ∙ ap (λ (z : ℕ). drop z st) f
+
+take-past : (a b : List ℕ) (m q : ℕ) → length a ≡ m → take (m + q) (a ++ b) ≡ a ++ take q b
+take-past a b m q l =
+    sym (take-append-drop m (take (m + q) (a ++ b))) ∙ ap (λ (z : List ℕ). z ++ drop m (take (m + q) (a ++ b))) (take-take m (m + q) (a ++ b) (omega arith) ∙ take-at a b m l)
+    ∙ ap (λ (z : List ℕ). a ++ z) (drop-take m q (a ++ b) ∙ ap (take q) (drop-at a b m l))
+
+-- the last block behind them
+pub last-front : (held₂ plain v out′ : List ℕ) (n q : ℕ) → q ≤ 16 → length plain ≡ 16 * n → take (16 * n + 16) held₂ ≡ plain ++ v → take (16 * n + q) out′ ≡ take (16 * n + q) held₂ → take (16 * n + q) out′ ≡ plain ++ take q v
+last-front held₂ plain v out′ n q h l e w =
+    w ∙ sym (take-take (16 * n + q) (16 * n + 16) held₂ (omega arith)) ∙ ap (take (16 * n + q)) e ∙ take-past plain v (16 * n) q l

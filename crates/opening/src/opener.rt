@@ -1,12 +1,12 @@
 // Opening in parts: each check lets out the blocks before it.
 ghost use mathlib.Core.Path.{_≡_};
 ghost use mathlib.Core.Bool.{true, false};
-ghost use mathlib.Core.List.{_++_};
+ghost use mathlib.Core.List.{List, _++_};
 ghost use Prim.Native.Nat.{ℕ, _+_, _*_, _<_, _≤_};
 ghost use lib.ListN.{length, take, drop};
 ghost use Rattle.elmd.specs.Stream.{Frame};
 ghost use Rattle.opening.specs.declared.place.Phase.the-variants.{Over as IsOver};
-ghost use Rattle.opening.specs.Opener.{nextEnd, completes as Completing, putRefusal, finishRefusal, refusal, Moved, Judged, PutDone, EndJudged, FinishDone, Opening, Lets, Puts, Closed, Finishes, Begun, Begins};
+ghost use Rattle.opening.specs.Opener.{nextEnd, completes as Completing, putRefusal, finishRefusal, refusal, Moved, Judged, PutDone, FinishDone, Opening, Lets, Puts, Finishes, Begun, Begins};
 use crate::place::Call;
 use crate::place::Opener;
 use crate::place::Phase;
@@ -147,6 +147,102 @@ impl Opener {
             (Phase::Spoiled, _) => Some(Refusal::Spoiled),
             (Phase::Filling, Call::Put { piece, room }) => self.put_refusal(piece, room),
             (Phase::Filling, Call::Finish { room }) => self.finish_refusal(room),
+        }
+    }
+
+    // Takes a piece that completes no check.
+    fn take_in(&mut self, piece: &[u8])
+        requires { ⌜ now self .taken + length (now piece) ≤ nextEnd (now self) ⌝ ∗ ⌜ (now self .state .checks < now self .shape .checks → now self .taken + length (now piece) < nextEnd (now self)) ⌝ }
+        ensures moved { λ _. ⌜ Moved (now (self .entry)) (length (now (piece .entry))) (now (self .exit)) ⌝ }
+        ensures kept { λ _. ⌜ (now (self .exit) .phase ≡ now (self .entry) .phase) × (now (self .exit) .state ≡ now (self .entry) .state) ⌝ }
+        ensures opens { λ _. ⌜ ((u : Frame) (s : List ℕ) → Opening u s (now (self .entry)) → Opening u (s ++ now (piece .entry)) (now (self .exit))) ⌝ }
+    {
+        copy_at(&mut self.held, self.fill, piece);
+        self.taken += piece.len();
+        self.fill += piece.len();
+    }
+
+    // Takes the piece that completes a check, and lets out the blocks before it where it is good.
+    fn complete<C: Cipher>(
+        &mut self,
+        c: &mut C,
+        piece: &[u8],
+        out: &mut [u8],
+    ) -> Result<(usize, usize), Refusal>
+        requires { ⌜ now self .state .checks < now self .shape .checks ⌝ ∗ ⌜ now self .taken + length (now piece) ≡ nextEnd (now self) ⌝ ∗ ⌜ 16 * now self .settings .interval ≤ length (now out) ⌝ }
+        ensures judged { λ r. ⌜ Judged (now (self .entry)) (length (now (piece .entry))) (now (out .entry)) r (now (self .exit)) (now (out .exit)) ⌝ }
+        ensures lets { λ r. ⌜ ((u : Frame) (s : List ℕ) → u .cipher ≡ C·Cipher .meaning (now (c .entry)) → Opening u s (now (self .entry)) → Lets u (now (self .entry)) (s ++ now (piece .entry)) r (now (self .exit)) (now (out .exit))) ⌝ }
+        ensures same { λ _. ⌜ C·Cipher .meaning (now (c .exit)) ≡ C·Cipher .meaning (now (c .entry)) ⌝ }
+    {
+        let t = self.settings.interval as usize;
+        copy_at(&mut self.held, self.fill, piece);
+        let (next, good) = judge_segment(c, self.state, t, &mut self.held, out);
+        self.taken += piece.len();
+        self.fill = 0;
+        self.state = next;
+        if !good {
+            self.phase = Phase::Spoiled;
+            return Err(Refusal::BadCheck(next.checks));
+        }
+        Ok((piece.len(), 16 * t))
+    }
+
+    // Takes bytes up to the end of the next check, and answers how many it took and how many it let out.
+    pub fn put<C: Cipher>(
+        &mut self,
+        c: &mut C,
+        piece: &[u8],
+        out: &mut [u8],
+    ) -> Result<(usize, usize), Refusal>
+        ensures done { λ r. ⌜ PutDone (now (self .entry)) (length (now (piece .entry))) (now (out .entry)) r (now (self .exit)) (now (out .exit)) ⌝ }
+        ensures puts { λ r. ⌜ Puts (C·Cipher .meaning (now (c .entry))) (now (self .entry)) (now (piece .entry)) (now (out .entry)) r (now (self .exit)) (now (out .exit)) ⌝ }
+        ensures same { λ _. ⌜ C·Cipher .meaning (now (c .exit)) ≡ C·Cipher .meaning (now (c .entry)) ⌝ }
+    {
+        let call = Call::Put {
+            piece: piece.len(),
+            room: out.len(),
+        };
+        if let Some(why) = self.refused(call) {
+            return Err(why);
+        }
+        let n = piece.len().min(self.next_end() - self.taken);
+        if self.completes(piece.len()) {
+            return self.complete(c, &piece[0..n], out);
+        }
+        self.take_in(&piece[0..n]);
+        Ok((n, 0))
+    }
+
+    // Judges the end of the stream, and answers how many bytes it let out.
+    pub fn finish<C: Cipher>(&mut self, c: &mut C, out: &mut [u8]) -> Result<usize, Refusal>
+        ensures done { λ r. ⌜ FinishDone (now (self .entry)) (now (out .entry)) r (now (self .exit)) (now (out .exit)) ⌝ }
+        ensures finishes { λ r. ⌜ Finishes (C·Cipher .meaning (now (c .entry))) (now (self .entry)) (now (out .entry)) r (now (out .exit)) ⌝ }
+        ensures same { λ _. ⌜ C·Cipher .meaning (now (c .exit)) ≡ C·Cipher .meaning (now (c .entry)) ⌝ }
+    {
+        if let Some(why) = self.refused(Call::Finish { room: out.len() }) {
+            return Err(why);
+        }
+        let t = self.settings.interval as usize;
+        let n = self.shape.blocks - self.shape.checks * t - 1;
+        let (state, tag) = (self.state, self.shape.tag);
+        match judge_rest(
+            c,
+            state,
+            self.settings,
+            n,
+            tag,
+            &mut self.held,
+            self.mark,
+            out,
+        ) {
+            Some(k) => {
+                self.phase = Phase::Over;
+                Ok(k)
+            }
+            None => {
+                self.phase = Phase::Spoiled;
+                Err(Refusal::BadTag)
+            }
         }
     }
 }

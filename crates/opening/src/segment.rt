@@ -63,11 +63,13 @@ pub(crate) fn judge_segment<C: Cipher>(
     ensures same { λ _. ⌜ C·Cipher .meaning (now (c .exit)) ≡ C·Cipher .meaning (now (c .entry)) ⌝ }
 {
     let (s, good) = open_run(c, first, t, held, t);
-    if good {
-        copy_at(out, 0, &held[0..16 * t]);
+    if !good {
+        zero(held);
+        return (s, false);
     }
+    copy_at(out, 0, &held[0..16 * t]);
     zero(held);
-    (s, good)
+    (s, true)
 }
 
 // Opens the last `n` + 1 blocks, behind which the tag stands: where the end is right they are let out. No plaintext stays.
@@ -76,20 +78,20 @@ pub(crate) fn judge_rest<C: Cipher>(
     first: Reading,
     settings: Settings,
     n: usize,
+    tag: usize,
     held: &mut [u8],
     mark: Mark,
     out: &mut [u8],
 ) -> Option<usize>
-    requires { ⌜ (first .since ≡ 0) × (first .checks < 1048577) ⌝ ∗ ⌜ n < settings .interval ⌝ ∗ ⌜ 16 * n + 16 ≤ length (now held) ⌝ ∗ ⌜ length (now held) ≤ 16 * n + 32 ⌝ ∗ ⌜ 16 * n + 16 ≤ length (now out) ⌝ }
+    requires { ⌜ (first .since ≡ 0) × (first .checks < 1048577) ⌝ ∗ ⌜ n < settings .interval ⌝ ∗ ⌜ tag ≤ 16 ⌝ ∗ ⌜ 16 * n + 16 + tag ≤ length (now held) ⌝ ∗ ⌜ 16 * n + 16 ≤ length (now out) ⌝ }
     ensures wiped { λ _. ⌜ now (held .exit) ≡ replicate (length (now (held .entry))) 0 ⌝ }
     ensures wrote { λ r. ⌜ WroteRest r n (now (out .entry)) (now (out .exit)) ⌝ }
-    ensures judged { λ r. ⌜ Rests (C·Cipher .meaning (now (c .entry))) settings first (markNumber mark) n (now (held .entry)) r (now (out .exit)) ⌝ }
+    ensures judged { λ r. ⌜ Rests (C·Cipher .meaning (now (c .entry))) settings first (markNumber mark) n (take (16 * n + 16 + tag) (now (held .entry))) r (now (out .exit)) ⌝ }
     ensures same { λ _. ⌜ C·Cipher .meaning (now (c .exit)) ≡ C·Cipher .meaning (now (c .entry)) ⌝ }
 {
     let at = 16 * n;
-    let tag = held.len() - at - 16;
     let (s, _) = open_run(c, first, settings.interval as usize, held, n);
-    let Some(end) = judge_end(c, s, settings, tag, held, mark, at) else {
+    let Some(end) = judge_end(c, s, settings, tag, &held[0..at + 16 + tag], mark, at) else {
         zero(held);
         return None;
     };

@@ -14,4 +14,4 @@ Inv-loop-i g l =
     × Counted (l .entry .s) (l .t) (l .i) (l .s)
     × (drop (16 * l .i) (l .held) ≡ drop (16 * l .i) (l .entry .held))
     × ((u : Frame) (stream : List ℕ) (i : ℕ) → u .cipher ≡ m (l .entry .c) → tOf u ≡ l .t → There u (l .entry .held) stream i (16 * l .n + 16) → Reads u stream i (l .entry .s)
-        → Ran u stream (l .t) i (l .i) (l .s) (take (16 * l .i) (l .held)) (l .good))
+    → Ran u stream (l .t) i (l .i) (l .s) (take (16 * l .i) (l .held)) (l .good))
