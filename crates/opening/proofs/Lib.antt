@@ -5,3 +5,7 @@ pub mod Passing
 pub mod Endings
 pub mod Parts
 pub mod Words
+pub mod Runs
+pub mod Standings
+pub mod Openings
+pub mod Calls

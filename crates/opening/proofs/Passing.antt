@@ -27,7 +27,7 @@ no-checks u s k p h = absurd (omega arith)
 pub passed-none : (u : Frame) (s : List ℕ) (r : Reading) (out : List ℕ) → Reads u s 0 r → out ≡ released u s 0 → Passed u s 0 r out
 passed-none u s r out ok w = record { reads = ok; checked = subst (Checks u s) (sym (zero-div (tOf u))) (no-checks u s); written = w }
 
-checks-more : (u : Frame) (s : List ℕ) (j : ℕ) → Checks u s j → Check u s (suc j) → Checks u s (suc j)
+pub checks-more : (u : Frame) (s : List ℕ) (j : ℕ) → Checks u s j → Check u s (suc j) → Checks u s (suc j)
 checks-more u s j f g k p h = ⊎-elim (λ l. f k p (omega arith)) (λ l. let e : suc j ≡ k = omega arith in subst (Check u s) e g) (cases-lt k (suc j))
 
 module _ (u : Frame) (s : List ℕ) (i : ℕ) (r r′ : Reading) (b : ℕ) (good : Bool) (out out′ : List ℕ) (ok : Passed u s i r out) (rd : Read u s i r r′ b good) where

@@ -6,6 +6,7 @@ use native.Mathlib.Omega.{arith}
 use native.Mathlib.Nat.{suc-mul}
 use lib.Bits.{bitXor}
 use lib.ListN.{length, take, drop, length-take, length-drop}
+use Rattle.std.proofs.shelf.Lists.{take-take, drop-drop, drop-take}
 use Rattle.block.specs.Field.{dbl, three, five}
 use Rattle.block.specs.Bytes.{ofBytes, padded}
 use Rattle.block.specs.Value.{value}
@@ -22,11 +23,25 @@ use Rattle.elmd.proofs.Strides.{quo-due, quo-not, five-more}
 use Rattle.opening.specs.declared.state.Reading.{Reading}
 use Rattle.opening.specs.Reading.{Reads, lastPair}
 
--- what is loaded is the block in that place
-pub loaded-in : (s : List ℕ) (e at v : ℕ) → at ≡ 16 * e → at + 16 ≤ length s → v ≡ ofBytes (padded (take 16 (drop at s))) → v ≡ blockIn s e
+-- a part within a part that two lists share
+pub inside : (x y : List ℕ) (n d k : ℕ) → take n x ≡ take n y → d + k ≤ n → take k (drop d x) ≡ take k (drop d y)
+inside x y n d k e h =
+    sym (drop-take d k x) ∙ ap (drop d) (sym (take-take (d + k) n x h) ∙ ap (take (d + k)) e ∙ take-take (d + k) n y h) ∙ drop-take d k y
+
+-- what is loaded is the block in that place of a stream
+loaded : (bytes s : List ℕ) (e at v : ℕ) → take 16 (drop at bytes) ≡ take 16 (drop (16 * e) s) → at + 16 ≤ length bytes → v ≡ ofBytes (padded (take 16 (drop at bytes))) → v ≡ blockIn s e
 unfolding blockIn
-loaded-in s e at v a h g =
-    g ∙ ap ofBytes (padded-whole (take 16 (drop at s)) (simp (length-take, length-drop) (omega arith))) ∙ ap (λ (n : ℕ). ofBytes (take 16 (drop n s))) a
+loaded bytes s e at v q h g = g ∙ ap ofBytes (padded-whole (take 16 (drop at bytes)) (simp (length-take, length-drop) (omega arith))) ∙ ap ofBytes q
+
+pub loaded-in : (bytes s : List ℕ) (n e at v : ℕ) → take n (drop at bytes) ≡ take n (drop (16 * e) s) → 16 ≤ n → at + 16 ≤ length bytes → v ≡ ofBytes (padded (take 16 (drop at bytes))) → v ≡ blockIn s e
+loaded-in bytes s n e at v q l h g = loaded bytes s e at v (sym (take-take 16 n (drop at bytes) l) ∙ ap (take 16) q ∙ take-take 16 n (drop (16 * e) s) l) h g
+
+-- and the check behind it
+pub loaded-past : (bytes s : List ℕ) (n e at v : ℕ) → take n (drop at bytes) ≡ take n (drop (16 * e) s) → 32 ≤ n → at + 16 + 16 ≤ length bytes → v ≡ ofBytes (padded (take 16 (drop (at + 16) bytes))) → v ≡ blockIn s (suc e)
+loaded-past bytes s n e at v q l h g =
+    let a : 16 * e + 16 ≡ 16 * suc e = omega arith in
+    loaded bytes s (suc e) (at + 16) v
+    (ap (take 16) (sym (drop-drop 16 at bytes)) ∙ inside (drop at bytes) (drop (16 * e) s) n 16 16 q l ∙ ap (take 16) (drop-drop 16 (16 * e) s ∙ ap (λ (k : ℕ). drop k s) a)) h g
 
 mark-back : (k : Mark) → markOf (markNumber k) ≡ k
 mark-back Filled = refl

@@ -89,6 +89,7 @@ pub record EndRight (u : Frame) (s : List ℕ) (k l q : ℕ) : Type 0 where
 
 -- what is handed on of a last block: its bytes before the filling
 pub record Held (v q : ℕ) : Type 0 where
+  pub some : 1 ≤ q
   pub most : q ≤ 16
   pub filled : padded (take q (bytesOf v)) ≡ bytesOf v
 
@@ -96,8 +97,11 @@ abbrev pub Ended : (u : Frame) (s : List ℕ) (k l : ℕ) → Option (Block × �
 Ended u s k l (Some x) = EndRight u s k l (x .1) × (value (x .0) ≡ lastR u s l k)
 Ended u s k l None = (q : ℕ) → EndRight u s k l q → ⊥
 
-abbrev pub Ends : Meaning → Settings → Reading → (k : ℕ) (s : List ℕ) (p : ℕ) → Option (Block × ℕ) → Type 0
-Ends c settings state k s p r = (u : Frame) → u .cipher ≡ c → settingsBytes settings ≡ u .settings → Reads u s p state → Ended u s k (suc p) r
+-- what stands at `at` is what a stream has behind its first p blocks
+abbrev pub Ends : Meaning → Settings → Reading → (k : ℕ) (bytes : List ℕ) (at : ℕ) → Option (Block × ℕ) → Type 0
+Ends c settings state k bytes at r =
+    (u : Frame) (s : List ℕ) (p : ℕ) → u .cipher ≡ c → settingsBytes settings ≡ u .settings → drop at bytes ≡ drop (16 * (p + p / tOf u)) s
+    → Reads u s p state → Ended u s k (suc p) r
 
 abbrev pub Judges : Meaning → Settings → Reading → (k l : ℕ) (s : List ℕ) → Result ℕ Refusal → (part : List ℕ) → Type 0
 Judges c settings first k l s r part = (u : Frame) → u .cipher ≡ c → settingsBytes settings ≡ u .settings → Reads u s 0 first → Judged u s k l r part

@@ -3,6 +3,7 @@ use mathlib.Core.Path.{_≡_}
 use mathlib.Core.Bool.{Bool, true}
 use mathlib.Core.List.{List}
 use Prim.Native.Nat.{ℕ, suc, _+_, _*_, _/_, _^_, _<_}
+use lib.ListN.{take, drop}
 use Rattle.std.specs.Orderings.{Decides}
 use lib.Bits.{bitXor}
 use Rattle.block.specs.Field.{dbl, three, five}
@@ -11,7 +12,7 @@ use Rattle.cipher.specs.Meaning.{Meaning, base}
 use Rattle.elmd.specs.Stream.{Frame, tOf, pow, sumTo}
 use Rattle.elmd.specs.Opening.{wR, pR, Check, lastR, tagR}
 use Rattle.elmd.specs.declared.refusal.Mark.{Mark}
-use Rattle.elmd.specs.Sizes.{lastMask}
+use Rattle.elmd.specs.Sizes.{lastMask, stride}
 use Rattle.opening.specs.declared.state.Reading.{Reading}
 
 -- the first i blocks of a stream are read
@@ -31,14 +32,17 @@ pub record Read (u : Frame) (stream : List ℕ) (i : ℕ) (s : Reading) (s′ : 
   pub judged : s .since + 1 ≡ tOf u → Decides good (Check u stream (suc (i / tOf u)))
   pub free : (s .since + 1 ≡ tOf u → ⊥) → good ≡ true
 
-abbrev pub Steps : Meaning → Reading → (t : ℕ) (stream : List ℕ) (at : ℕ) → Reading → (b : ℕ) → Bool → Type 0
-Steps c s t stream at s′ b good =
-    (u : Frame) (i : ℕ) → u .cipher ≡ c → tOf u ≡ t → at ≡ 16 * (i + i / tOf u) → Reads u stream i s → Read u stream i s s′ b good
+-- what stands at `at` is what a stream has in the place of block i + 1
+abbrev pub Steps : Meaning → Reading → (t : ℕ) (bytes : List ℕ) (at : ℕ) → Reading → (b : ℕ) → Bool → Type 0
+Steps c s t bytes at s′ b good =
+    (u : Frame) (stream : List ℕ) (i : ℕ) → u .cipher ≡ c → tOf u ≡ t
+    → take (stride t (s .since)) (drop at bytes) ≡ take (stride t (s .since)) (drop (16 * (i + i / tOf u)) stream)
+    → Reads u stream i s → Read u stream i s s′ b good
 
 -- the last block and the tag behind p blocks
-abbrev pub Ends : Meaning → Reading → (k : ℕ) (stream : List ℕ) (p : ℕ) → (last tag : ℕ) → Type 0
-Ends c s k stream p last tag =
-    (u : Frame) → u .cipher ≡ c → Reads u stream p s → (last ≡ lastR u stream (suc p) k) × (tag ≡ tagR u stream (suc p) k)
+abbrev pub Ends : Meaning → Reading → (k : ℕ) (bytes : List ℕ) (at : ℕ) → (last tag : ℕ) → Type 0
+Ends c s k bytes at last tag =
+    (u : Frame) (stream : List ℕ) (p : ℕ) → u .cipher ≡ c → drop at bytes ≡ drop (16 * (p + p / tOf u)) stream → Reads u stream p s → (last ≡ lastR u stream (suc p) k) × (tag ≡ tagR u stream (suc p) k)
 
 -- the last block and the tag, from the state before it and what stands in its place
 abbrev pub lastPair : Meaning → Mark → (w mask out sum b : ℕ) → ℕ × ℕ

@@ -21,6 +21,9 @@ use elmd::state::ClosedHeading;
 mod front;
 mod guard;
 mod last;
+pub mod opener;
+mod place;
+mod segment;
 mod state;
 mod step;
 
@@ -29,6 +32,7 @@ use guard::Wipe;
 use last::message_bytes;
 use last::put_last;
 use last::tag_matches;
+pub use place::Opener;
 use state::Reading;
 use step::open_last;
 
@@ -112,7 +116,8 @@ fn open_part<C: Cipher>(
         Ok(s) => s,
         Err(why) => return Err(why),
     };
-    let Some(end) = judge_end(c, s, settings, shape.tag, stream, mark, p) else {
+    let at = 16 * (p + s.checks);
+    let Some(end) = judge_end(c, s, settings, shape.tag, stream, mark, at) else {
         return Err(Refusal::BadTag);
     };
     put_last(guard.out, 16 * p, end.0, end.1);
@@ -120,23 +125,23 @@ fn open_part<C: Cipher>(
     Ok(16 * p + end.1)
 }
 
-// The last block, behind `p` others, and the number of its message bytes, where block and tag are right.
-fn judge_end<C: Cipher>(
+// The last block, which with the tag stands at `at`, and the number of its message bytes, where block and tag are right.
+pub(crate) fn judge_end<C: Cipher>(
     c: &mut C,
     s: Reading,
     settings: Settings,
     tag_length: usize,
     stream: &[u8],
     mark: Mark,
-    p: usize,
+    at: usize,
 ) -> Option<(Block, usize)>
-    requires { ⌜ p < 16777216 ⌝ ∗ ⌜ s .checks < 16777216 ⌝ ∗ ⌜ length (now stream) ≡ 16 * (p + 1 + s .checks) + «tag_length» ⌝ ∗ ⌜ «tag_length» ≤ 16 ⌝ }
+    requires { ⌜ length (now stream) ≡ at + 16 + «tag_length» ⌝ ∗ ⌜ «tag_length» ≤ 16 ⌝ }
     ensures held { λ r. ⌜ BySome r (Unit {0}) (λ x. Held (value (x .0)) (x .1)) ⌝ }
-    ensures ends { λ r. ⌜ Ends (C·Cipher .meaning (now (c .entry))) settings s (markNumber mark) (now (stream .entry)) p r ⌝ }
+    ensures ends { λ r. ⌜ Ends (C·Cipher .meaning (now (c .entry))) settings s (markNumber mark) (now (stream .entry)) at r ⌝ }
     ensures same { λ _. ⌜ C·Cipher .meaning (now (c .exit)) ≡ C·Cipher .meaning (now (c .entry)) ⌝ }
 {
-    let (last, tag) = open_last(c, s, mark, stream, 16 * (p + s.checks));
-    let genuine = tag_matches(tag, stream, 16 * (p + 1 + s.checks));
+    let (last, tag) = open_last(c, s, mark, stream, at);
+    let genuine = tag_matches(tag, stream, at + 16);
     let k = message_bytes(last, mark, settings.short_tag, tag_length)?;
     if genuine { Some((last, k)) } else { None }
 }

@@ -57,7 +57,7 @@ pub(crate) fn open_block<C: Cipher>(
     (reading, b, good)
 }
 
-// The last block, at `at` behind `p` others, with its filling; and the tag that belongs to it.
+// The last block, at `at`, with its filling; and the tag that belongs to it.
 pub(crate) fn open_last<C: Cipher>(
     c: &mut C,
     s: Reading,
@@ -66,7 +66,7 @@ pub(crate) fn open_last<C: Cipher>(
     at: usize,
 ) -> (Block, Block)
     requires { ⌜ at + 16 ≤ length (now stream) ⌝ }
-    ensures ends { λ r. ⌜ ((p : ℕ) → at ≡ 16 * (p + s .checks) → Ends (C·Cipher .meaning (now (c .entry))) s (markNumber mark) (now (stream .entry)) p (value (r .0)) (value (r .1))) ⌝ }
+    ensures ends { λ r. ⌜ Ends (C·Cipher .meaning (now (c .entry))) s (markNumber mark) (now (stream .entry)) at (value (r .0)) (value (r .1)) ⌝ }
     ensures same { λ _. ⌜ C·Cipher .meaning (now (c .exit)) ≡ C·Cipher .meaning (now (c .entry)) ⌝ }
 {
     last_pair(c, s, mark, Block::load(stream, at))

@@ -7,9 +7,10 @@ use native.Mathlib.Nat.{zero-div, zero-mul, div-le-self}
 use native.Mathlib.Numerals.{add-one}
 use native.Mathlib.Omega.{arith}
 use borrow.Author.Needs.{needs}
-use lib.ListN.{length, take}
+use lib.ListN.{length, take, drop}
 use Rattle.block.specs.Value.{value}
 use Rattle.elmd.specs.Stream.{tOf}
+use Rattle.elmd.specs.Sizes.{stride}
 use Rattle.elmd.proofs.Strides.{since-is, quo-next, stride-fits}
 use Rattle.opening.specs.Judging.{Passed}
 use Rattle.opening.proofs.Passing.{passed-none, passed-more, failed-first}
@@ -48,8 +49,8 @@ returns-then-not-good g c =
       counts = tt;
       fronts = λ u ec et r.
           let ok = inv .3 u ec et r in
-          let at : 16 * (i + c .loop-i .s .checks) ≡ 16 * (i + i / tOf u) = ap (λ (n : ℕ). 16 * (i + n)) (ok .reads .passed) in
-          let rd = c .open-block-good .ensures .steps u i (ec ∙ sym (inv .0)) et at (ok .reads) in
+          let at = ap (λ (k : ℕ). take (stride (c .args .t) (c .loop-i .s .since)) (drop (16 * (i + k)) st)) (ok .reads .passed) in
+          let rd = c .open-block-good .ensures .steps u st i (ec ∙ sym (inv .0)) et at (ok .reads) in
           failed-first u st i (c .loop-i .s) (c .open-block-good .result .0) (value (c .open-block-good .result .1)) (c .open-block-good .result .2) _ [] ok rd (c .args .p) (c .loop-i-test .taken) (c .if-not-good .taken);
       same = c .open-block-good .ensures .same ∙ inv .0;
     }
@@ -73,8 +74,8 @@ loop-i-again g c =
       n .1 ∙ ap (λ (k : ℕ). k + cond (eqb (c .loop-i .s .since + 1) t) 1 0) (inv .2) ∙ sym s2,
       λ u ec et r.
           let ok = inv .3 u ec et r in
-          let at : 16 * (i + c .loop-i .s .checks) ≡ 16 * (i + i / tOf u) = ap (λ (k : ℕ). 16 * (i + k)) (ok .reads .passed) in
-          let rd = c .open-block-good .ensures .steps u i (ec ∙ sym (inv .0)) et at (ok .reads) in
+          let at = ap (λ (k : ℕ). take (stride t (c .loop-i .s .since)) (drop (16 * (i + k)) st)) (ok .reads .passed) in
+          let rd = c .open-block-good .ensures .steps u st i (ec ∙ sym (inv .0)) et at (ok .reads) in
           passed-more u st i (c .loop-i .s) (c .open-block-good .result .0) (value (c .open-block-good .result .1)) (c .open-block-good .result .2) _ _ ok rd (c .if-not-good .left) front,
     )
 

@@ -9,7 +9,7 @@ use Rattle.block.specs.Value.{value}
 use Rattle.elmd.specs.Stream.{tOf}
 use Rattle.elmd.specs.Opening.{yR, wR, xR, pR}
 use Rattle.elmd.specs.Sizes.{stride}
-use Rattle.opening.proofs.Readings.{loaded-in, read-Y, read-X, read-W, read-P, read-check, reads-on, reads-past}
+use Rattle.opening.proofs.Readings.{loaded-in, loaded-past, read-Y, read-X, read-W, read-P, read-check, reads-on, reads-past}
 use Rattle.opening.proofs.step.open_block.Needs as need
 
 pub returns-then-s-t : need.returns-then-s-t
@@ -23,20 +23,20 @@ returns-then-s-t g c =
     let room : at + 16 ≤ length st = omega (arith, c .pre .1 .1) in
     record {
       counts = (sym (ap (λ (b : Bool). cond b 0 (s .since + 1)) no), sym (ap (λ (b : Bool). s .checks + cond b 1 0) no ∙ add-zero (s .checks)));
-      steps = λ u i ec et ea r.
+      steps = λ u str i ec et ea r.
           let n : s .since + 1 ≡ tOf u → ⊥ = λ e. c .if-s-t .taken (e ∙ et) in
-          let b = loaded-in st (i + i / tOf u) at (value (c .load .result)) ea room (c .load .ensures) in
-          let y = read-Y u st i s r (value (c .load .result)) b in
-          let ys : value (c .encrypt-y .result) ≡ yR u st (suc i) = cc in
+          let b = loaded-in st str (stride t (s .since)) (i + i / tOf u) at (value (c .load .result)) ea (omega arith) room (c .load .ensures) in
+          let y = read-Y u str i s r (value (c .load .result)) b in
+          let ys : value (c .encrypt-y .result) ≡ yR u str (suc i) = cc in
           let pair0 = ap (λ (q : ℕ × ℕ). q .0) (c .unmixed .ensures) in
           let pair1 = ap (λ (q : ℕ × ℕ). q .1) (c .unmixed .ensures) in
-          let x = read-X u st i s r in
-          let w = read-W u st i s r in
-          let p = read-P u st i s r in
-          let ws : value (c .unmixed .result .1) ≡ wR u st (suc i) = cc in
-          let ps : value (c .xor-b .result) ≡ pR u st (suc i) = cc in
+          let x = read-X u str i s r in
+          let w = read-W u str i s r in
+          let p = read-P u str i s r in
+          let ws : value (c .unmixed .result .1) ≡ wR u str (suc i) = cc in
+          let ps : value (c .xor-b .result) ≡ pR u str (suc i) = cc in
           record {
-            reads = reads-on u st i s r _ n ws (c .double-mask .ensures) (c .double-next .ensures) (cc) refl refl;
+            reads = reads-on u str i s r _ n ws (c .double-mask .ensures) (c .double-next .ensures) (cc) refl refl;
             block = ps;
             judged = λ d. absurd (n d);
             free = λ _. refl;
@@ -57,23 +57,22 @@ returns g c =
     let room2 : at + 16 + 16 ≤ length st = omega (arith, c .pre .1 .1) in
     record {
       counts = (sym (ap (λ (b : Bool). cond b 0 (s .since + 1)) yes), sym (ap (λ (b : Bool). s .checks + cond b 1 0) yes));
-      steps = λ u i ec et ea r.
+      steps = λ u str i ec et ea r.
           let n : s .since + 1 ≡ tOf u = d ∙ sym et in
-          let b = loaded-in st (i + i / tOf u) at (value (c .load .result)) ea room (c .load .ensures) in
-          let at2 : at + 16 ≡ 16 * suc (i + i / tOf u) = omega arith in
-          let b2 = loaded-in st (suc (i + i / tOf u)) (at + 16) (value (c .load-2 .result)) at2 room2 (c .load-2 .ensures) in
-          let y = read-Y u st i s r (value (c .load .result)) b in
-          let ys : value (c .encrypt-y .result) ≡ yR u st (suc i) = cc in
+          let b = loaded-in st str (stride t (s .since)) (i + i / tOf u) at (value (c .load .result)) ea (omega arith) room (c .load .ensures) in
+          let b2 = loaded-past st str (stride t (s .since)) (i + i / tOf u) at (value (c .load-2 .result)) ea (omega arith) room2 (c .load-2 .ensures) in
+          let y = read-Y u str i s r (value (c .load .result)) b in
+          let ys : value (c .encrypt-y .result) ≡ yR u str (suc i) = cc in
           let pair0 = ap (λ (q : ℕ × ℕ). q .0) (c .unmixed .ensures) in
           let pair1 = ap (λ (q : ℕ × ℕ). q .1) (c .unmixed .ensures) in
-          let x = read-X u st i s r in
-          let w = read-W u st i s r in
-          let p = read-P u st i s r in
-          let ws : value (c .unmixed .result .1) ≡ wR u st (suc i) = cc in
-          let ps : value (c .xor-b .result) ≡ pR u st (suc i) = cc in
-          let k = read-check u st i s r n (value (c .xor-2 .result)) (value (c .load-2 .result)) (cc) b2 in
+          let x = read-X u str i s r in
+          let w = read-W u str i s r in
+          let p = read-P u str i s r in
+          let ws : value (c .unmixed .result .1) ≡ wR u str (suc i) = cc in
+          let ps : value (c .xor-b .result) ≡ pR u str (suc i) = cc in
+          let k = read-check u str i s r n (value (c .xor-2 .result)) (value (c .load-2 .result)) (cc) b2 in
           record {
-            reads = reads-past u st i s r _ n ws (c .double-mask .ensures) (c .double .ensures ∙ ap Rattle.block.specs.Field.dbl (c .double-next .ensures)) (cc) refl refl;
+            reads = reads-past u str i s r _ n ws (c .double-mask .ensures) (c .double .ensures ∙ ap Rattle.block.specs.Field.dbl (c .double-next .ensures)) (cc) refl refl;
             block = ps;
             judged = λ _. (
               λ e. k .0 (eqb-true (value (c .xor-2 .result)) (value (c .load-2 .result)) (sym (c .same-good .ensures) ∙ e)),
