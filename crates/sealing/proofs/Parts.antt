@@ -6,7 +6,7 @@ use Prim.Native.Nat.{ℕ, suc, min, _+_, _-_, _*_, _/_, _%_, _<_, _≤_}
 use native.Mathlib.Omega.{arith}
 use lib.Dec.{eqb, ltb}
 use lib.ListN.{length, take, drop, length-append, length-take, length-drop, take-append-drop}
-use Rattle.std.proofs.shelf.Lists.{append-nil, take-all, take-take, drop-take, drop-drop, drop-append-le, drop-all}
+use Rattle.std.proofs.shelf.Lists.{take-all, take-take, drop-take, drop-drop, drop-append-le, drop-all}
 use Rattle.std.proofs.shelf.Tests.{cond-true, cond-false, le-ltb, lt-ltb}
 use Rattle.std.specs.declared.result.Result.{Result}
 use Rattle.std.specs.declared.result.Result.the-variants.{Ok, Err}
@@ -104,10 +104,6 @@ module _ (m : Meaning) (s s′ : Sealer) (part : List ℕ) (car : Carried s s′
       )
 
 -- part after part
-pub grows-none : (m : Meaning) (s : Sealer) → Grows m s [] s [] []
-grows-none m s u acc ec o =
-    (subst (λ (z : List ℕ). Sealing u z s) (sym (append-nil acc)) o, λ old e. ap (λ (z : List ℕ). front u z s) (append-nil acc) ∙ e)
-
 pub grows-join : (m m′ : Meaning) (s s1 s2 : Sealer) (a b x y z : List ℕ) → m′ ≡ m → Grows m s a s1 x y → Grows m′ s1 b s2 y z → Grows m s (a ++ b) s2 x z
 grows-join m m′ s s1 s2 a b x y z em f g u acc ec o =
     let one = f u acc ec o in

@@ -3,7 +3,7 @@ use mathlib.Core.Bool.{Bool, cond, _||_}
 use Prim.Native.Nat.{ℕ, pred, min, _+_, _-_, _*_, _/_, _%_}
 use lib.Dec.{eqb, ltb}
 use Rattle.std.specs.declared.result.Result.{Result}
-use Rattle.std.specs.declared.result.Result.the-variants.{Ok, Err}
+use Rattle.std.specs.declared.result.Result.the-variants.{Ok}
 use Rattle.elmd.specs.declared.refusal.Refusal.{Refusal}
 use Rattle.elmd.specs.declared.refusal.Refusal.the-variants.{MessageLength, PieceTooLong, OutputShort, BytesMissing}
 use Rattle.elmd.specs.declared.refusal.Mark.{Mark}

@@ -127,6 +127,7 @@ fn sealed_blocks(n: usize, k: usize) -> usize
     (k / 16).min((n - 1) / 16)
 }
 
+// How many bytes of the stream are handed over then.
 fn handed_over(t: usize, n: usize, k: usize) -> usize
     requires { ⌜ 1 ≤ n ⌝ ∗ ⌜ n ≤ 16777216 ⌝ }
     ensures { λ r. ⌜ r ≡ handedOver t n k ⌝ }
@@ -135,6 +136,7 @@ fn handed_over(t: usize, n: usize, k: usize) -> usize
     16 * (q + checks_in(q + 1, t))
 }
 
+// Puts bytes behind the `fill` that are held.
 fn hold(pending: &mut [u8; 16], fill: usize, part: &[u8])
     requires { ⌜ fill + length (now part) ≤ 16 ⌝ }
     ensures { λ _. ⌜ take (fill + length (now (part .entry))) (now (pending .exit)) ≡ take fill (now (pending .entry)) ++ now (part .entry) ⌝ }
@@ -166,6 +168,7 @@ fn push<C: Cipher>(s: &mut Sealer, c: &mut C, part: &[u8], out: &mut [u8], at: u
     end
 }
 
+// Takes a piece block by block, and writes what it makes ready at the start of `out`.
 fn push_all<C: Cipher>(s: &mut Sealer, c: &mut C, piece: &[u8], out: &mut [u8])
     requires { ⌜ now s .k + length (now piece) ≤ now s .n ⌝ ∗ ⌜ handed (now s) (now s .k + length (now piece)) ≤ length (now out) + handed (now s) (now s .k) ⌝ }
     ensures carried { λ _. ⌜ Carried (now (s .entry)) (now (s .exit)) (length (now (piece .entry))) ⌝ }

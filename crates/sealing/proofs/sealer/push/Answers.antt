@@ -1,13 +1,13 @@
 use mathlib.Core.Path.{_≡_, refl, sym, ap, _∙_}
 use mathlib.Core.Bool.{cond}
 use mathlib.Core.List.{_++_}
-use Prim.Native.Nat.{ℕ, suc, _+_, _-_, _*_, _/_, _≤_, _<_}
+use Prim.Native.Nat.{ℕ, suc, _+_, _-_, _*_, _/_}
 use native.Mathlib.Omega.{arith}
 use borrow.Author.Needs.{needs}
 use lib.Dec.{eqb}
-use lib.ListN.{length, take, drop}
+use lib.ListN.{length, take}
 use Rattle.elmd.proofs.Strides.{stride-is, since-is}
-use Rattle.sealing.specs.Handing.{sealedBlocks, handedOver}
+use Rattle.sealing.specs.Handing.{sealedBlocks}
 use Rattle.sealing.proofs.Parts.{grows-on, grows-past, one-more}
 use Rattle.sealing.proofs.sealer.push.Needs as need
 

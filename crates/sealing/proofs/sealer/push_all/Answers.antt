@@ -1,4 +1,4 @@
-use mathlib.Core.Path.{_≡_, refl, sym, ap, subst, _∙_}
+use mathlib.Core.Path.{_≡_, sym, ap, subst, _∙_}
 use mathlib.Core.List.{List, []}
 use Prim.Native.Nat.{ℕ, _+_, _-_, _*_, _≤_}
 use native.Mathlib.Omega.{arith}
@@ -6,8 +6,8 @@ use borrow.Author.Needs.{needs}
 use lib.ListN.{length, take, drop}
 use Rattle.std.proofs.shelf.Lists.{take-all}
 use Rattle.sealing.specs.Handing.{sealedBlocks, handedOver}
-use Rattle.sealing.specs.Sealer.{Carried, Grows}
-use Rattle.sealing.proofs.Parts.{grows-none, grows-join, handed-le, handed-at, handed-here, room-left, place-next, place-on, place-end, behind, part-fits, part-length, take-parts}
+use Rattle.sealing.specs.Sealer.{Grows}
+use Rattle.sealing.proofs.Parts.{grows-join, handed-le, handed-at, handed-here, room-left, place-next, place-on, place-end, behind, part-fits, part-length, take-parts}
 use Rattle.sealing.proofs.sealer.push_all.Needs as need
 
 pub push-at-requires : need.push-at-requires
