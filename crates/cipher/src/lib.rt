@@ -1,5 +1,6 @@
 // A block cipher by its meaning, and the paper cipher.
 ghost use mathlib.Core.Path.{_≡_};
+ghost use Prim.Native.Nat.{_+_, _%_, _^_};
 ghost use denote.Ref.{now};
 ghost use Rattle.block.specs.Value.{value};
 ghost use Rattle.cipher.specs.Meaning.{Meaning, Lawful, base, paper};
@@ -73,12 +74,20 @@ pub struct Counting<C: Cipher> {
 pub impl<C: Cipher> Cipher for Counting<C> as CountingCipher {
     ghost meaning = { λ s. C·Cipher .meaning (s .inner) };
 
-    fn encrypt(&mut self, b: Block) -> Block {
+    fn encrypt(&mut self, b: Block) -> Block
+        ensures value { λ r. ⌜ value r ≡ C·Cipher .meaning (now (self .entry) .inner) .enc (value b) ⌝ }
+        ensures same { λ _. ⌜ C·Cipher .meaning (now (self .exit) .inner) ≡ C·Cipher .meaning (now (self .entry) .inner) ⌝ }
+        ensures counted { λ _. ⌜ now (self .exit) .calls ≡ (now (self .entry) .calls + 1) % 2 ^ 64 ⌝ }
+    {
         self.calls = self.calls.wrapping_add(1);
         self.inner.encrypt(b)
     }
 
-    fn decrypt(&mut self, b: Block) -> Block {
+    fn decrypt(&mut self, b: Block) -> Block
+        ensures value { λ r. ⌜ value r ≡ C·Cipher .meaning (now (self .entry) .inner) .dec (value b) ⌝ }
+        ensures same { λ _. ⌜ C·Cipher .meaning (now (self .exit) .inner) ≡ C·Cipher .meaning (now (self .entry) .inner) ⌝ }
+        ensures counted { λ _. ⌜ now (self .exit) .calls ≡ (now (self .entry) .calls + 1) % 2 ^ 64 ⌝ }
+    {
         self.calls = self.calls.wrapping_add(1);
         self.inner.decrypt(b)
     }
