@@ -1,19 +1,22 @@
 -- The round keys as words, against those as bytes.
-use mathlib.Core.Path.{_≡_, refl, sym, _∙_, ap, ap₂, subst}
-use mathlib.Core.List.{List, [], _∷_, _++_}
+use mathlib.Core.Path.{_≡_, refl, sym, _∙_, ap, ap₂}
+use mathlib.Core.Bool.{true, false}
+use mathlib.Core.List.{List, [], _∷_}
+use mathlib.Core.Logic.{_≢_, ⊎-elim}
 use Prim.Native.Nat.{ℕ, zero, suc, _+_, _-_, _<_, _≤_}
 use native.Mathlib.Nat.{zero-add}
-use native.Mathlib.Numerals.{add-one}
 use native.Mathlib.Omega.{arith}
-use lib.ListN.{getD, length, set, length-set}
-use mathlib.Core.Logic.{_≢_}
-use borrow.Author.Count.{below-more}
 use lib.Bits.{bitXor}
-use Rattle.std.proofs.shelf.Counted.{fill-by-all, getD-map-counting}
+use lib.ListN.{getD, length, set, length-set}
 use lib.Seq.{getD-set-same, getD-set-other}
-use Rattle.gf256.proofs.Boxes.{agree}
+use Rattle.std.proofs.shelf.Counted.{fill-by-all, getD-map-counting}
+use Rattle.std.proofs.shelf.Edits.{fill-by-more}
+use Rattle.std.proofs.shelf.Tests.{cases-eq}
+use Rattle.block.specs.Bytes.{ofBytes, bytesOf, Bytes}
+use Rattle.block.proofs.Bytes.{number-back}
 use Rattle.gf256.specs.Sbox.{sbox}
-use Rattle.aes.specs.Fips197.{nextKey, rcon, roundKey, keySchedule, xorWord, invMixColumns, invRounds, invRound}
+use Rattle.aes.specs.Fips197.{addRoundKey, decipher, nextKey, roundKey, keySchedule, xorWord, invMixColumns, invShiftRows, invSubBytes, invRounds, invRound}
+use Rattle.aes.proofs.Turns.{Keys, keys-none, keys-more}
 use Rattle.fast_aes.specs.Words.{byte, bytes4, spread, spreads, unmixes}
 use Rattle.fast_aes.proofs.Gathering.{bytes4-xor}
 use Rattle.fast_aes.proofs.Turning.{four, spreads-at}
@@ -34,67 +37,85 @@ module _ (rc : ℕ) (k : List ℕ) (t : ℕ) where
       let qd = x (getD k 3 0) c d _ pd qc in
       four qa qb qc qd
 
+spreads-length : (ks : List (List ℕ)) → length (spreads ks) ≡ 11
+unfolding spreads
+spreads-length ks = refl
+
+is-spreads : (ks t : List (List ℕ)) → length t ≡ 11 → ((k : ℕ) → k < 11 → getD t k [] ≡ spread (getD ks k [])) → t ≡ spreads ks
+unfolding spreads
+is-spreads ks t l e = fill-by-all (λ i. spread (getD ks i [])) t 11 [] l e
+
+-- a round key written at place j
+spreads-set : (ks : List (List ℕ)) (j : ℕ) (v : List ℕ) → length ks ≡ 11 → j < 11 → spreads (set ks j v) ≡ set (spreads ks) j (spread v)
+spreads-set ks j v l h =
+    let short : j < length ks = omega arith in
+    let wide : j < length (spreads ks) = rw (spreads-length ks) h in
+    sym (is-spreads (set ks j v) (set (spreads ks) j (spread v)) (simp length-set (spreads-length ks))
+    (λ k lt. ⊎-elim (λ e. rw e (simp getD-set-same)) (λ (ne : k ≢ j). simp getD-set-other (spreads-at ks k lt)) (cases-eq k j)))
+
 -- the round keys up to place i stand in ks
 abbrev pub Keyed : List ℕ → List (List ℕ) → ℕ → Type 0
-Keyed key ks i = (length ks ≡ 11) × ((k : ℕ) → k < i + 1 → spread (getD ks k []) ≡ roundKey key k)
+Keyed key ks i = (length ks ≡ 11) × Keys key (spreads ks) i
 
 pub keyed-none : (key : List ℕ) (ks : List (List ℕ)) → length ks ≡ 11 → spread (getD ks 0 []) ≡ key → Keyed key ks 0
-keyed-none key ks l e = (l, λ k h. let z : k ≡ 0 = omega arith in rw z e)
-
--- the table of the round constants holds their rule
-abbrev constants : List ℕ
-constants = 0x01 ∷ 0x02 ∷ 0x04 ∷ 0x08 ∷ 0x10 ∷ 0x20 ∷ 0x40 ∷ 0x80 ∷ 0x1b ∷ 0x36 ∷ []
-
-rcon-is : (i : ℕ) → i < 10 → getD constants i 0 ≡ rcon i
-rcon-is = agree 10 _ rcon tt
-
--- what a loop that writes at place i leaves at the places up to it
-written : (f : ℕ → List ℕ) (ks : List (List ℕ)) (i : ℕ) (v : List ℕ) → i < length ks → spread v ≡ f i
-    → ((k : ℕ) → k < i → spread (getD ks k []) ≡ f k) → (k : ℕ) → k < i + 1 → spread (getD (set ks i v) k []) ≡ f k
-written f ks i v short e old =
-    below-more (λ k. spread (getD (set ks i v) k []) ≡ f k) i
-    (λ k h. let ne : k ≢ i = omega arith in rw getD-set-other (old k h))
-    (rw getD-set-same e)
+keyed-none key ks l e = (l, keys-none key (spreads ks) (spreads-length ks) (spreads-at ks 0 (omega arith) ∙ e))
 
 pub keyed-more : (key : List ℕ) (ks : List (List ℕ)) (i : ℕ) (v : List ℕ) → i < 10
-    → spread v ≡ nextKey (getD constants i 0) (spread (getD ks i []))
+    → spread v ≡ nextKey (getD (0x01 ∷ 0x02 ∷ 0x04 ∷ 0x08 ∷ 0x10 ∷ 0x20 ∷ 0x40 ∷ 0x80 ∷ 0x1b ∷ 0x36 ∷ []) i 0) (spread (getD ks i []))
     → Keyed key ks i → Keyed key (set ks (i + 1) v) (i + 1)
 keyed-more key ks i v h e p =
-    let short : i + 1 < length ks = omega (arith, p .0) in
-    let rc = rcon-is i h in
-    let old = p .1 i (omega arith) in
-    let new : spread v ≡ roundKey key (i + 1) = rw add-one (cc) in
-    (simp length-set (p .0), written (roundKey key) ks (i + 1) v short new (p .1))
+    let next = e ∙ ap (nextKey _) (sym (spreads-at ks i (omega arith))) in
+    (simp length-set (p .0), rw (spreads-set ks (i + 1) v (p .0) (omega arith)) (keys-more key (spreads ks) i (spread v) h next (p .1)))
 
 pub keyed-all : (key : List ℕ) (ks : List (List ℕ)) (i : ℕ) → 10 ≤ i → Keyed key ks i → spreads ks ≡ keySchedule key
-unfolding spreads keySchedule
-keyed-all key ks i h p =
-    fill-by-all (roundKey key) (spreads ks) 11 [] refl (λ k l. spreads-at ks k l ∙ p .1 k (omega arith))
+unfolding keySchedule
+keyed-all key ks i h p = fill-by-all (roundKey key) (spreads ks) 11 [] (p .1 .0) (λ k l. p .1 .1 k (omega arith))
 
-abbrev pub Unmixing : List (List ℕ) → List (List ℕ) → ℕ → Type 0
-Unmixing ds ks i = (length ds ≡ 11) × ((k : ℕ) → k < i → spread (getD ds k []) ≡ invMixColumns (spread (getD ks k [])))
+-- the schedule of a key that came as bytes
+pub schedule-made : (key : List ℕ) (ks : List (List ℕ)) (s : List ℕ) (v : ℕ) → length key ≡ 16 → Bytes key → spreads ks ≡ keySchedule (spread s)
+    → spread s ≡ bytesOf v → v ≡ ofBytes key → spreads ks ≡ keySchedule key
+schedule-made key ks s v l h e p q = e ∙ ap keySchedule (p ∙ ap bytesOf q ∙ number-back key l h)
 
-pub unmixing-more : (ds ks : List (List ℕ)) (i : ℕ) (v : List ℕ) → i < 11 → spread v ≡ invMixColumns (spread (getD ks i []))
-    → Unmixing ds ks i → Unmixing (set ds i v) ks (i + 1)
-unmixing-more ds ks i v h e p =
-    let short : i < length ds = omega (arith, p .0) in
-    (simp length-set (p .0), written (λ k. invMixColumns (spread (getD ks k []))) ds i v short e (p .1))
+-- InvMixColumns of the round keys below place i stands in ds
+module _ (ks : List (List ℕ)) where
+  abbrev mixedBack : ℕ → List ℕ
+  mixedBack i = invMixColumns (spread (getD ks i []))
 
-unmixes-at : (ks : List (List ℕ)) (i : ℕ) → i < 11 → getD (unmixes ks) i [] ≡ invMixColumns (spread (getD ks i []))
-unfolding unmixes
-unmixes-at ks i h = getD-map-counting (λ i. invMixColumns (spread (getD ks i []))) 0 11 i i [] h (zero-add i)
+  abbrev pub Unmixing : List (List ℕ) → ℕ → Type 0
+  Unmixing ds i = (length ds ≡ 11) × ((k : ℕ) → k < i → getD (spreads ds) k [] ≡ mixedBack k)
 
-pub unmixing-all : (ds ks : List (List ℕ)) (i : ℕ) → 11 ≤ i → Unmixing ds ks i → spreads ds ≡ unmixes ks
-unfolding spreads unmixes
-unmixing-all ds ks i h p =
-    fill-by-all (λ k. invMixColumns (spread (getD ks k []))) (spreads ds) 11 [] refl (λ k l. spreads-at ds k l ∙ p .1 k (omega arith))
+  pub unmixing-more : (ds : List (List ℕ)) (i : ℕ) (v : List ℕ) → i < 11 → spread v ≡ mixedBack i → Unmixing ds i → Unmixing (set ds i v) (i + 1)
+  unmixing-more ds i v h e p =
+      let wide : i < length (spreads ds) = rw (spreads-length ds) h in
+      (simp length-set (p .0), rw (spreads-set ds i v (p .0) h, e) (fill-by-more mixedBack (spreads ds) i [] wide (p .1)))
 
-pub unmixed-at : (ds ks : List (List ℕ)) → spreads ds ≡ unmixes ks → (i : ℕ) → i < 11 → spread (getD ds i []) ≡ invMixColumns (spread (getD ks i []))
-unmixed-at ds ks e i h = sym (spreads-at ds i h) ∙ ap (λ (l : List (List ℕ)). getD l i []) e ∙ unmixes-at ks i h
+  pub unmixing-all : (ds : List (List ℕ)) (i : ℕ) → 11 ≤ i → Unmixing ds i → spreads ds ≡ unmixes ks
+  unfolding unmixes
+  unmixing-all ds i h p = fill-by-all mixedBack (spreads ds) 11 [] (spreads-length ds) (λ k l. p .1 k (omega arith))
+
+  pub unmixed-at : (ds : List (List ℕ)) → spreads ds ≡ unmixes ks → (i : ℕ) → i < 11 → spread (getD ds i []) ≡ mixedBack i
+  unfolding unmixes
+  unmixed-at ds e i h = sym (spreads-at ds i h) ∙ ap (λ (l : List (List ℕ)). getD l i []) e ∙ getD-map-counting mixedBack 0 11 i i [] h (zero-add i)
 
 -- the first of n inverse rounds
-pub inv-first : (ks : List (List ℕ)) (n : ℕ) (s : List ℕ) → 0 < n → invRounds ks (n - 1) (invRound (getD ks n []) s) ≡ invRounds ks n s
+inv-first : (ks : List (List ℕ)) (n : ℕ) (s : List ℕ) → 0 < n → invRounds ks (n - 1) (invRound (getD ks n []) s) ≡ invRounds ks n s
 inv-first ks zero s h = absurd (omega arith)
 inv-first ks (suc m) s h =
     let e : suc m - 1 ≡ m = omega arith in
     ap (λ (j : ℕ). invRounds ks j (invRound (getD ks (suc m) []) s)) e
+
+-- decryption, begun by a last round without MixColumns, or by a full one; x holds the block b
+module _ (ks : List (List ℕ)) (n : ℕ) (h : n < 10) (b x t : List ℕ) (is : spread x ≡ b) where
+  pub from-last : (r : List ℕ) → spread t ≡ addRoundKey (spread (getD ks (n + 1) [])) (spread x)
+      → spread r ≡ invRounds (spreads ks) n (invSubBytes (invShiftRows (spread t)))
+      → spread r ≡ decipher true n (spreads ks) b
+  from-last r p q =
+      q ∙ ap (λ (z : List ℕ). invRounds (spreads ks) n (invSubBytes (invShiftRows z))) (p ∙ ap₂ addRoundKey (sym (spreads-at ks (n + 1) (omega arith))) is)
+
+  pub from-full : (u r : List ℕ) → 0 < n → spread t ≡ addRoundKey (spread (getD ks n [])) (spread x) → spread u ≡ invMixColumns (spread t)
+      → spread r ≡ invRounds (spreads ks) (n - 1) (invSubBytes (invShiftRows (spread u)))
+      → spread r ≡ decipher false n (spreads ks) b
+  from-full u r pos p q e =
+      e ∙ ap (λ (z : List ℕ). invRounds (spreads ks) (n - 1) (invSubBytes (invShiftRows z))) q
+      ∙ ap (λ (z : List ℕ). invRounds (spreads ks) (n - 1) (invSubBytes (invShiftRows (invMixColumns z)))) (p ∙ ap₂ addRoundKey (sym (spreads-at ks n (omega arith))) is)
+      ∙ inv-first (spreads ks) n b pos

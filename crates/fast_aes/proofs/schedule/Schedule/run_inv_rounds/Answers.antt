@@ -18,7 +18,7 @@ loop-i-again c =
     let h : j + 1 < 11 = omega arith in
     let s : List ℕ = invSubBytes (invShiftRows (spread (l .a ∷ l .b ∷ l .c ∷ l .d ∷ []))) in
     let turned =
-    inv-round-is (getD (k .keys) (j + 1) []) (getD (k .«inv_keys») (j + 1) []) (unmixed-at (k .«inv_keys») (k .keys) (k .unmixed) (j + 1) h) (l .a) (l .b) (l .c) (l .d) _ _ _ _
+    inv-round-is (getD (k .keys) (j + 1) []) (getD (k .«inv_keys») (j + 1) []) (unmixed-at (k .keys) (k .«inv_keys») (k .unmixed) (j + 1) h) (l .a) (l .b) (l .c) (l .d) _ _ _ _
     (c .inv-mixed-e .ensures) (c .inv-mixed-f .ensures) (c .inv-mixed-g .ensures) (c .inv-mixed-h .ensures) in
     invRounds-less (spreads (k .keys)) (l .i) j s _ (omega arith)
     (ap (λ (z : List ℕ). invSubBytes (invShiftRows z)) turned ∙ ap (λ (z : List ℕ). invRound z s) (sym (spreads-at (k .keys) (j + 1) h)))
