@@ -1,0 +1,4 @@
+pub mod Gathering
+pub mod Halving
+pub mod Turning
+pub mod Keying
