@@ -6,14 +6,15 @@ use mathlib.Core.List.{List, [], _++_}
 use Prim.Native.Nat.{ℕ, min, _+_, _-_, _*_, _<_, _≤_}
 use native.Mathlib.Omega.{arith}
 use native.Mathlib.Nat.{sub-zero}
-use lib.Dec.{ltb}
+use lib.Dec.{ltb, leb}
 use lib.ListN.{length, take, drop}
 use Rattle.std.specs.declared.option.Option.{Option}
 use Rattle.std.specs.declared.option.Option.the-variants.{Some, None}
 use Rattle.std.specs.declared.result.Result.{Result}
 use Rattle.std.specs.declared.result.Result.the-variants.{Ok, Err}
 use Rattle.std.proofs.shelf.Lists.{length-take-le}
-use Rattle.std.proofs.shelf.Tests.{cases-lt, cond-true, cond-false, lt-ltb, le-ltb, true≢false}
+use Rattle.std.proofs.shelf.Tests.{cases-lt, cond-true, cond-false, lt-ltb, le-ltb, leb-true, true≢false}
+use Rattle.opening.proofs.Standings.{taken-next}
 use Rattle.elmd.specs.declared.refusal.Refusal.{Refusal}
 use Rattle.elmd.specs.declared.refusal.Refusal.the-variants as why
 use Rattle.opening.specs.declared.place.Opener.{Opener}
@@ -67,3 +68,18 @@ open-at ph.Filling o room e =
 
 pub finish-open : (o : Opener) (room : ℕ) → None ≡ refusal o (Finish room) → (o .size ≤ o .taken) × (lastRoom o ≤ room)
 finish-open o room e = open-at (o .phase) o room e
+
+-- a put that completes a check takes its last byte
+pub completes-below : (o : Opener) (n : ℕ) → completes o n ≡ true → o .state .checks < o .shape .checks
+completes-below o n t =
+    ⊎-elim (λ lt. lt) (λ le. absurd (true≢false (sym t ∙ cond-false (ltb (o .state .checks) (o .shape .checks)) (leb (nextEnd o - o .taken) n) false (le-ltb (o .state .checks) (o .shape .checks) le)))) (cases-lt (o .state .checks) (o .shape .checks))
+
+pub completes-all : (o : Opener) (x : List ℕ) → completes o (length x) ≡ true → o .taken + length (take (took o (length x)) x) ≡ nextEnd o
+completes-all o x t =
+    let lt = completes-below o (length x) t in
+    let a : leb (nextEnd o - o .taken) (length x) ≡ true = sym (cond-true (ltb (o .state .checks) (o .shape .checks)) (leb (nextEnd o - o .taken) (length x)) false (lt-ltb (o .state .checks) (o .shape .checks) lt)) ∙ t in
+    let b : nextEnd o - o .taken ≤ length x = leb-true (nextEnd o - o .taken) (length x) a in
+    let e : took o (length x) ≡ nextEnd o - o .taken = omega arith in
+    let d = taken-next o lt in
+    let f : length (take (took o (length x)) x) ≡ took o (length x) = length-take-le (took o (length x)) x (omega arith) in
+    omega arith

@@ -9,3 +9,4 @@ pub mod Runs
 pub mod Standings
 pub mod Openings
 pub mod Calls
+pub mod Messages

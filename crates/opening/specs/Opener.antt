@@ -3,7 +3,7 @@ use mathlib.Core.Path.{_≡_}
 use mathlib.Core.Logic.{_⊎_}
 use mathlib.Core.Bool.{Bool, true, false, cond, _&&_}
 use mathlib.Core.List.{List, [], _++_}
-use Prim.Native.Nat.{ℕ, suc, pred, min, _+_, _-_, _*_, _<_, _≤_}
+use Prim.Native.Nat.{ℕ, suc, pred, min, _+_, _-_, _*_, _^_, _<_, _≤_}
 use lib.Dec.{ltb, eqb, leb}
 use lib.ListN.{length, take, drop, replicate}
 use Rattle.std.specs.declared.option.Option.{Option}
@@ -20,9 +20,9 @@ use Rattle.elmd.specs.declared.settings.Settings.{Settings}
 use Rattle.elmd.specs.declared.state.ClosedHeading.{ClosedHeading}
 use Rattle.elmd.specs.Refusals.{markNumber}
 use Rattle.elmd.specs.Settings.{settingsBytes}
-use Rattle.elmd.specs.Stream.{Frame, tOf}
+use Rattle.elmd.specs.Stream.{Frame, tOf, iv, stream}
 use Rattle.elmd.specs.Opening.{released, Check, Checks, Right, opened}
-use Rattle.elmd.specs.Laws.{MessageOf}
+use Rattle.elmd.specs.Laws.{MessageOf, Extends, Begins as Front}
 use Rattle.elmd.specs.Shape.{Laid}
 use Rattle.opening.specs.declared.place.Opener.{Opener}
 use Rattle.opening.specs.declared.place.Phase.{Phase}
@@ -77,11 +77,11 @@ pub record Moved (o : Opener) (k : ℕ) (o′ : Opener) : Type 0 where
   pub size-kept : o′ .size ≡ o .size
   pub counted : o′ .taken ≡ o .taken + k
 
--- a check was judged behind k more bytes: a good one lets its blocks out, a bad one spoils the opener
+-- a check was judged behind k more bytes: a good one lets its blocks out, a bad one spoils the opener; no plaintext stays
 abbrev pub Judged : Opener → (k : ℕ) (out : List ℕ) → Result (ℕ × ℕ) Refusal → Opener → (out′ : List ℕ) → Type 0
 Judged o k out (Ok x) o′ out′ =
     (x ≡ (k, 16 * o .settings .interval)) × Moved o k o′ × (o′ .phase ≡ o .phase) × (o′ .state .checks ≡ o .state .checks + 1)
-    × (drop (16 * o .settings .interval) out′ ≡ drop (16 * o .settings .interval) out)
+    × (drop (16 * o .settings .interval) out′ ≡ drop (16 * o .settings .interval) out) × (o′ .held ≡ replicate 2048 0)
 Judged o k out (Err e) o′ out′ =
     (e ≡ why.BadCheck (o .state .checks + 1)) × Moved o k o′ × (o′ .phase ≡ ph.Spoiled) × (o′ .held ≡ replicate 2048 0) × (out′ ≡ out)
 
@@ -93,7 +93,7 @@ pub record PutDone (o : Opener) (n : ℕ) (out : List ℕ) (r : Result (ℕ × �
 
 -- the end was judged: a right one lets the last blocks out and the opener is over, a wrong one spoils it
 abbrev pub EndJudged : Opener → (out : List ℕ) → Result ℕ Refusal → Opener → (out′ : List ℕ) → Type 0
-EndJudged o out (Ok n) o′ out′ = (n ≤ lastRoom o) × (lastRoom o < n + 16) × Moved o 0 o′ × (o′ .phase ≡ ph.Over) × (drop n out′ ≡ drop n out)
+EndJudged o out (Ok n) o′ out′ = (n ≤ lastRoom o) × (lastRoom o < n + 16) × Moved o 0 o′ × (o′ .phase ≡ ph.Over) × (drop n out′ ≡ drop n out) × (o′ .held ≡ replicate 2048 0)
 EndJudged o out (Err e) o′ out′ = (e ≡ why.BadTag) × Moved o 0 o′ × (o′ .phase ≡ ph.Spoiled) × (o′ .held ≡ replicate 2048 0) × (out′ ≡ out)
 
 pub record FinishDone (o : Opener) (out : List ℕ) (r : Result ℕ Refusal) (o′ : Opener) (out′ : List ℕ) : Type 0 where
@@ -108,6 +108,7 @@ pub record Opening (u : Frame) (s : List ℕ) (o : Opener) : Type 0 where
   pub chosen : settingsBytes (o .settings) ≡ u .settings
   pub counted : o .taken ≡ length s
   pub bytes : Bytes s
+  pub started : iv u < 2 ^ 128
   pub reads : Reads u s (o .state .checks * tOf u) (o .state)
   pub checked : Checks u s (o .state .checks)
   pub holds : take (o .fill) (o .held) ≡ drop (16 * (o .state .checks * tOf u + o .state .checks)) s
@@ -133,6 +134,31 @@ Closed u o s (Err e) out′ = (q : ℕ) → Right u s (markNumber (o .mark)) (o 
 abbrev pub Finishes : Meaning → Opener → (out : List ℕ) → Result ℕ Refusal → (out′ : List ℕ) → Type 0
 Finishes c o out r out′ =
     (u : Frame) (s : List ℕ) → u .cipher ≡ c → Opening u s o → refusal o (Finish (length out)) ≡ None → Closed u o s r out′
+
+-- THE MESSAGES
+
+-- a check is good exactly when the bytes through it begin the stream of a message of this length and mark; what was let
+-- out then begins every such message
+abbrev pub Told : (u : Frame) → Opener → (s′ : List ℕ) → Result (ℕ × ℕ) Refusal → Opener → Type 0
+Told u o s′ (Ok x) o′ =
+    Extends u (o .size) (markNumber (o .mark)) s′
+    × ((m : List ℕ) → MessageOf u (o .size) (markNumber (o .mark)) m → Front s′ (stream u m) → Front (released u s′ (o′ .state .checks * tOf u)) m)
+Told u o s′ (Err e) o′ = Extends u (o .size) (markNumber (o .mark)) s′ → ⊥
+
+abbrev pub PutMeans : Meaning → Opener → (piece out : List ℕ) → Result (ℕ × ℕ) Refusal → Opener → Type 0
+PutMeans c o piece out r o′ =
+    (u : Frame) (s : List ℕ) → u .cipher ≡ c → Opening u s o → refusal o (Put (length piece) (length out)) ≡ None → completes o (length piece) ≡ true
+    → Told u o (s ++ take (took o (length piece)) piece) r o′
+
+-- the end is right exactly when the bytes are the stream of a message, which is then let out whole
+abbrev pub Sealed : (u : Frame) → Opener → (s : List ℕ) → Result ℕ Refusal → (out′ : List ℕ) → Type 0
+Sealed u o s (Ok n) out′ =
+    (m : List ℕ) × MessageOf u (o .size) (markNumber (o .mark)) m × (stream u m ≡ s) × (released u s (o .shape .checks * tOf u) ++ take n out′ ≡ m)
+Sealed u o s (Err e) out′ = (m : List ℕ) → MessageOf u (o .size) (markNumber (o .mark)) m → stream u m ≡ s → ⊥
+
+abbrev pub FinishMeans : Meaning → Opener → (out : List ℕ) → Result ℕ Refusal → (out′ : List ℕ) → Type 0
+FinishMeans c o out r out′ =
+    (u : Frame) (s : List ℕ) → u .cipher ≡ c → Opening u s o → refusal o (Finish (length out)) ≡ None → Sealed u o s r out′
 
 -- THE START
 

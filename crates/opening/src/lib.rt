@@ -21,7 +21,7 @@ use elmd::state::ClosedHeading;
 mod front;
 mod guard;
 mod last;
-pub mod opener;
+mod opener;
 mod place;
 mod segment;
 mod state;

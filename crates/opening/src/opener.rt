@@ -6,7 +6,7 @@ ghost use Prim.Native.Nat.{ℕ, _+_, _*_, _<_, _≤_};
 ghost use lib.ListN.{length, take, drop};
 ghost use Rattle.elmd.specs.Stream.{Frame};
 ghost use Rattle.opening.specs.declared.place.Phase.the-variants.{Over as IsOver};
-ghost use Rattle.opening.specs.Opener.{nextEnd, completes as Completing, putRefusal, finishRefusal, refusal, Moved, Judged, PutDone, FinishDone, Opening, Lets, Puts, Finishes, Begun, Begins};
+ghost use Rattle.opening.specs.Opener.{nextEnd, completes as Completing, putRefusal, finishRefusal, refusal, Moved, Judged, PutDone, FinishDone, Opening, Lets, Puts, PutMeans, Finishes, FinishMeans, Begun, Begins};
 use crate::place::Call;
 use crate::place::Opener;
 use crate::place::Phase;
@@ -195,6 +195,7 @@ impl Opener {
         out: &mut [u8],
     ) -> Result<(usize, usize), Refusal>
         ensures done { λ r. ⌜ PutDone (now (self .entry)) (length (now (piece .entry))) (now (out .entry)) r (now (self .exit)) (now (out .exit)) ⌝ }
+        ensures means { λ r. ⌜ PutMeans (C·Cipher .meaning (now (c .entry))) (now (self .entry)) (now (piece .entry)) (now (out .entry)) r (now (self .exit)) ⌝ }
         ensures puts { λ r. ⌜ Puts (C·Cipher .meaning (now (c .entry))) (now (self .entry)) (now (piece .entry)) (now (out .entry)) r (now (self .exit)) (now (out .exit)) ⌝ }
         ensures same { λ _. ⌜ C·Cipher .meaning (now (c .exit)) ≡ C·Cipher .meaning (now (c .entry)) ⌝ }
     {
@@ -216,6 +217,7 @@ impl Opener {
     // Judges the end of the stream, and answers how many bytes it let out.
     pub fn finish<C: Cipher>(&mut self, c: &mut C, out: &mut [u8]) -> Result<usize, Refusal>
         ensures done { λ r. ⌜ FinishDone (now (self .entry)) (now (out .entry)) r (now (self .exit)) (now (out .exit)) ⌝ }
+        ensures means { λ r. ⌜ FinishMeans (C·Cipher .meaning (now (c .entry))) (now (self .entry)) (now (out .entry)) r (now (out .exit)) ⌝ }
         ensures finishes { λ r. ⌜ Finishes (C·Cipher .meaning (now (c .entry))) (now (self .entry)) (now (out .entry)) r (now (out .exit)) ⌝ }
         ensures same { λ _. ⌜ C·Cipher .meaning (now (c .exit)) ≡ C·Cipher .meaning (now (c .entry)) ⌝ }
     {

@@ -1,10 +1,10 @@
 use mathlib.Core.Path.{_≡_, refl, sym, ap, subst, _∙_}
 use mathlib.Core.List.{List, []}
-use Prim.Native.Nat.{ℕ, pred, _+_, _*_, _/_, _≤_}
+use Prim.Native.Nat.{ℕ, pred, _+_, _*_, _/_, _^_, _<_, _≤_}
 use native.Mathlib.Omega.{arith}
 use native.Mathlib.Nat.{zero-mul}
 use lib.ListN.{length, take, drop}
-use Rattle.block.specs.Value.{value}
+use Rattle.block.specs.Value.{value, value-lt}
 use Rattle.elmd.specs.declared.settings.Settings.{Settings}
 use Rattle.elmd.specs.Settings.{settingsBytes}
 use Rattle.elmd.specs.Stream.{Frame, tOf}
@@ -49,6 +49,7 @@ returns c =
             chosen = set;
             counted = refl;
             bytes = tt;
+            started = subst (λ (n : ℕ). n < 2 ^ 128) ivs (value-lt (c .into-parts .result .2));
             reads = reads-start u _ first;
             checked = λ k p h. absurd (omega arith);
             holds = sym (Rattle.std.proofs.shelf.Lists.drop-all (16 * (0 * tOf u + 0)) [] (omega arith));

@@ -77,6 +77,7 @@ returns g c =
     let r = c .judge-segment-good .result .0 in
     let good = c .if-not-good .left in
     let long : o .fill ≤ length (o .held) = search needs in
+    let size : length (c .copy-at .last .s) ≡ 2048 = search needs in
     let lt = c .pre .0 in
     let en = end-next o lt in
     let cn = o .stands .2 in
@@ -90,6 +91,7 @@ returns g c =
         refl,
         n .1,
         subst (λ (b : Bool). LetOut b (16 * o .settings .interval) (c .args .out .now) (c .judge-segment-good .last .out)) good (j .wrote),
+        j .wiped ∙ ap (λ (k : ℕ). replicate k 0) size,
       );
       lets = λ u s ec ok.
           let seg = subst (λ (b : Bool). Segmented u (s ++ x) (o .settings .interval) (o .state .checks * Rattle.elmd.specs.Stream.tOf u) r (c .judge-segment-good .last .out) b) good
@@ -99,6 +101,7 @@ returns g c =
               chosen = ok .chosen;
               counted = counted-more u s x o ok;
               bytes = bytes-more u s x o ok bx;
+              started = ok .started;
               reads = reads-next u s x o ok full r (n .1) (seg .reads);
               checked = checked-next u s x o ok full r (n .1) (seg .checked);
               holds = holds-next u s x o ok full r (n .1);

@@ -4,9 +4,13 @@ use native.Mathlib.Omega.{arith}
 use native.Mathlib.Nat.{div-le-self, add-zero}
 use borrow.Author.Needs.{needs}
 use lib.ListN.{length, replicate}
+use Rattle.std.specs.declared.result.Result.the-variants.{Ok, Err}
+use Rattle.cipher.specs.Meaning.{Meaning, Lawful}
+use Rattle.elmd.specs.declared.refusal.Refusal.the-variants as why
 use Rattle.elmd.specs.Stream.{tOf}
 use Rattle.opening.proofs.Standings.{blocks-low, blocks-high, full-fill, fill-small}
 use Rattle.opening.proofs.Openings.{rest-there, right-back, right-is, opened-is}
+use Rattle.opening.proofs.Messages.{end-told}
 use Rattle.opening.proofs.Calls.{no-refusal, finish-open}
 use Rattle.opening.proofs.place.Opener.finish.Needs as need
 
@@ -41,6 +45,7 @@ returns-in-Some-judge-rest g c =
     let f = finish-open o (length (c .args .out .now)) (c .in-rest .ensures tt) in
     let k = c .in-Some-judge-rest .k in
     let e = c .in-Some-judge-rest .ensures tt in
+    let size : length (o .held) ≡ 2048 = search needs in
     let w = e .wrote in
     let w0 = w .0 in
     let w1 = w .1 in
@@ -49,8 +54,12 @@ returns-in-Some-judge-rest g c =
     record {
       done = record {
         refused = λ y q. absurd (no-refusal _ y (c .in-rest .ensures tt) q);
-        judged = λ _. (omega arith, omega arith, record { settings-kept = refl; shape-kept = refl; mark-kept = refl; size-kept = refl; counted = sym (add-zero (o .taken)) }, refl, w .2);
+        judged = λ _. (omega arith, omega arith, record { settings-kept = refl; shape-kept = refl; mark-kept = refl; size-kept = refl; counted = sym (add-zero (o .taken)) }, refl, w .2, e .wiped ∙ ap (λ (n : ℕ). replicate n 0) size);
       };
+      means = λ u s ec ok none.
+          let r = e .judged u s (o .state .checks * tOf u) ec (ok .chosen) (rest-there u s o ok (f .0)) (ok .reads) in
+          end-told u (subst (λ (m : Meaning). Lawful m) (sym ec) (g .C·Cipher·met .lawful (c .args .c .now))) s o ok (f .0) (Ok k) (c .judge-rest .last .out)
+          (r .0, right-is u s o ok (f .0) (r .0) (r .2 .right), opened-is u s o ok (f .0) (r .0) k (c .judge-rest .last .out) (r .1) (r .2));
       finishes = λ u s ec ok none.
           let r = e .judged u s (o .state .checks * tOf u) ec (ok .chosen) (rest-there u s o ok (f .0)) (ok .reads) in
           (r .0, right-is u s o ok (f .0) (r .0) (r .2 .right), opened-is u s o ok (f .0) (r .0) k (c .judge-rest .last .out) (r .1) (r .2));
@@ -68,6 +77,9 @@ returns-in-None g c =
         refused = λ y q. absurd (no-refusal _ y (c .in-rest .ensures tt) q);
         judged = λ _. (refl, record { settings-kept = refl; shape-kept = refl; mark-kept = refl; size-kept = refl; counted = sym (add-zero (o .taken)) }, refl, e .wiped ∙ ap (λ (n : ℕ). replicate n 0) size, e .wrote);
       };
+      means = λ u s ec ok none.
+          end-told u (subst (λ (m : Meaning). Lawful m) (sym ec) (g .C·Cipher·met .lawful (c .args .c .now))) s o ok (f .0) (Err why.BadTag) (c .judge-rest .last .out)
+          (λ q x. e .judged u s (o .state .checks * tOf u) ec (ok .chosen) (rest-there u s o ok (f .0)) (ok .reads) q (right-back u s o ok (f .0) q x));
       finishes = λ u s ec ok none q x. e .judged u s (o .state .checks * tOf u) ec (ok .chosen) (rest-there u s o ok (f .0)) (ok .reads) q (right-back u s o ok (f .0) q x);
       same = e .same;
     }

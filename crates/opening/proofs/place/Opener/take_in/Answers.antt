@@ -33,6 +33,7 @@ returns c =
         chosen = ok .chosen;
         counted = counted-more u s x o ok;
         bytes = bytes-more u s x o ok bx;
+        started = ok .started;
         reads = reads-more u s x o ok;
         checked = checked-more u s x o ok;
         holds = holds-more u s x o ok _ long (c .copy-at .ensures);
