@@ -15,14 +15,14 @@ use crate::reply::put_block;
 use crate::reply::put_opened;
 use crate::reply::put_refusal;
 use crate::reply::put_sealed;
-use aes::Aes6;
-use aes::Aes6Cipher;
-use aes::Aes10;
-use aes::Aes10Cipher;
 use block::Block;
 use cipher::PaperCipher;
 use cipher::PaperCipherCipher;
 use elmd::refusal::Mark;
+use fast_aes::FastAes6;
+use fast_aes::FastAes6Cipher;
+use fast_aes::FastAes10;
+use fast_aes::FastAes10Cipher;
 use speck::Speck;
 use speck::SpeckCipher;
 use std::alloc::AllocError;
@@ -41,11 +41,11 @@ macro_rules! under {
     ($label:expr, $key:expr, $c:ident => $run:expr, $none:expr) => {
         match $label {
             10 => {
-                let mut $c = Aes10::new($key);
+                let mut $c = FastAes10::new($key);
                 $run
             }
             6 => {
-                let mut $c = Aes6::new($key);
+                let mut $c = FastAes6::new($key);
                 $run
             }
             32 => {

@@ -8,19 +8,19 @@ ghost use lib.ListN.{length, drop};
 ghost use Rattle.block.specs.Value.{value};
 ghost use Rattle.cipher.specs.Meaning.{Meaning};
 ghost use Rattle.aes.specs.Fips197.{aes10, aes6};
-ghost use Rattle.aes.specs.contracts.ciphers.Aes10Cipher.the-impl.{ghosts as cipher10};
-ghost use Rattle.aes.specs.contracts.ciphers.Aes6Cipher.the-impl.{ghosts as cipher6};
+ghost use Rattle.fast_aes.specs.contracts.ciphers.FastAes10Cipher.the-impl.{ghosts as cipher10};
+ghost use Rattle.fast_aes.specs.contracts.ciphers.FastAes6Cipher.the-impl.{ghosts as cipher6};
 ghost use Rattle.elmd.specs.Refusals.{markNumber};
 ghost use Rattle.elmd.specs.Heading.{frameOf};
 ghost use Rattle.sealing.specs.Seal.{sealAnswer};
 ghost use Rattle.exports.specs.Exports.{turned, eachBlock, sealedLength, OpenedTo, keyOf, eightOf, blocksFor, sealedOutput, sealFor, outputFor, OpenFor};
-use aes::Aes6;
-use aes::Aes6Cipher;
-use aes::Aes10;
-use aes::Aes10Cipher;
 use block::Block;
 use cipher::Cipher;
 use elmd::refusal::Mark;
+use fast_aes::FastAes6;
+use fast_aes::FastAes6Cipher;
+use fast_aes::FastAes10;
+use fast_aes::FastAes10Cipher;
 use opening::open;
 use sealing::seal;
 use speck::Speck;
@@ -92,16 +92,16 @@ fn eight(s: &[u8]) -> [u8; 8]
     }
 }
 
-fn aes10(key: &[u8]) -> Aes10
+fn aes10(key: &[u8]) -> FastAes10
     ensures { λ r. ⌜ cipher10 .meaning r ≡ aes10 (keyOf (now (key .entry))) ⌝ }
 {
-    Aes10::new(&Block::load(key, 0).to_bytes())
+    FastAes10::new(&Block::load(key, 0).to_bytes())
 }
 
-fn aes6(key: &[u8]) -> Aes6
+fn aes6(key: &[u8]) -> FastAes6
     ensures { λ r. ⌜ cipher6 .meaning r ≡ aes6 (keyOf (now (key .entry))) ⌝ }
 {
-    Aes6::new(&Block::load(key, 0).to_bytes())
+    FastAes6::new(&Block::load(key, 0).to_bytes())
 }
 
 // E, or D where `forth` is 0, of each whole block of `bytes`, in place; nothing for an unknown label.

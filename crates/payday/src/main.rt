@@ -1,10 +1,10 @@
 // A week's wages of a shed: sealed at the office, sent to the terminals, and opened there.
-use aes::Aes6;
-use aes::Aes6Cipher;
-use aes::Aes10;
-use aes::Aes10Cipher;
 use block::Block;
 use elmd::settings::Settings;
+use fast_aes::FastAes6;
+use fast_aes::FastAes6Cipher;
+use fast_aes::FastAes10;
+use fast_aes::FastAes10Cipher;
 use speck::Speck;
 use speck::SpeckCipher;
 use std::error::AnyError;
@@ -58,8 +58,8 @@ fn office<'x>(
     heading: &'x str,
     wages: &'x [u8],
 ) -> Result<(), AnyError> {
-    let mut c = Aes10::new(&key(0x3c));
-    let mut other = Aes10::new(&key(0x3d));
+    let mut c = FastAes10::new(&key(0x3c));
+    let mut other = FastAes10::new(&key(0x3d));
     let order = Order {
         title: "Office file: AES-10, a check every 8 blocks, the tag cut to the last block",
         settings: settings(10, 8, true)?,
@@ -96,8 +96,8 @@ fn old_terminal<'x>(
     heading: &'x str,
     wages: &'x [u8],
 ) -> Result<(), AnyError> {
-    let mut c = Aes6::new(&key(0x3c));
-    let mut other = Aes6::new(&key(0x3d));
+    let mut c = FastAes6::new(&key(0x3c));
+    let mut other = FastAes6::new(&key(0x3d));
     let order = Order {
         title: "Old terminal's file: AES-6, no checks, the tag cut to the last block",
         settings: settings(6, 0, true)?,
