@@ -3,7 +3,7 @@ use mathlib.Core.Path.{_≡_, refl, sym, ap, subst, _∙_}
 use mathlib.Core.Bool.{Bool, cond}
 use mathlib.Core.List.{List, [], _∷_, _++_, append-assoc}
 use mathlib.Core.Logic.{_⊎_, inl, inr}
-use Prim.Native.Nat.{ℕ, zero, suc, pred, min, _+_, _-_, _*_, _/_, _%_, _<_, _≤_}
+use Prim.Native.Nat.{ℕ, zero, suc, min, _+_, _-_, _*_, _%_, _<_, _≤_}
 use native.Mathlib.Omega.{arith}
 use lib.Dec.{eqb}
 use lib.ListN.{length, take, drop, getD, set}
@@ -18,7 +18,7 @@ use Rattle.elmd.specs.declared.state.ClosedHeading.{ClosedHeading}
 use Rattle.elmd.specs.Heading.{Closes}
 use Rattle.elmd.specs.Laws.{Begins, innerX}
 use Rattle.elmd.specs.Refusals.{markOf}
-use Rattle.elmd.specs.Stream.{Frame, tOf, fOf, X, blocks, mark, places, stream}
+use Rattle.elmd.specs.Stream.{Frame, fOf, blocks, mark, places, stream}
 use Rattle.elmd.proofs.Agree.{streaming}
 use Rattle.elmd.proofs.Counts.{interval-is, short-is, marked-is}
 use Rattle.elmd.proofs.Extend.{places-begin}
@@ -30,7 +30,7 @@ use Rattle.sealing.proofs.Parts.{behind}
 use Rattle.rehearsal.specs.declared.seal_calls.SealCall.{SealCall}
 use Rattle.rehearsal.specs.declared.seal_calls.SealAnswer.{SealAnswer}
 use Rattle.rehearsal.specs.declared.seal_calls.SealAnswer.the-variants.{Handed, Sealed, Refused, Ended}
-use Rattle.rehearsal.specs.SealLaw.{Stage, taking, over, roomOf, answerTo, handedIn, acceptedIn, after, answersOf, accepted, Finishes, Finished, made, Answered, SealerLaw, stageOf, Keeps, Stands, output, Does, Turns, Written, Upto, Drives}
+use Rattle.rehearsal.specs.SealLaw.{Stage, taking, over, roomOf, answerTo, handedIn, acceptedIn, after, answersOf, accepted, Finishes, made, Answered, SealerLaw, stageOf, Keeps, Stands, output, Does, Turns, Upto, Drives}
 
 -- the sealer that is held
 pub does-by : (m : Meaning) (held held′ : Option Sealer) (s : Sealer) (room w : ℕ) (c c′ : SealCall) (out out′ : List ℕ) (a : SealAnswer) → held ≡ Some s → c ≡ c′
@@ -207,24 +207,36 @@ whole-by : (u : Frame) (n : ℕ) (acc written : List ℕ) (held : Option Sealer)
 whole-by u n acc written (Some s) k o e z ek = let no : _≡_ {A = ℕ} 0 1 = cc in absurd (omega arith)
 whole-by u n acc written None k o e z ek = (o, sym e, marked-is acc k (ek ∙ ap (λ (i : ℕ). markOf (cond (eqb (i % 16) 0) 1 0)) (sym o)))
 
+-- the calls that are made are those that bytes are accepted of
+accepted-made : (cs : List SealCall) (xs : List SealAnswer) (k : ℕ) → k ≡ min (length cs) (length xs) → accepted (take k cs) (take k xs) ≡ accepted cs xs
+accepted-made [] xs zero e = refl
+accepted-made [] xs (suc k) e = refl
+accepted-made (c ∷ cs) [] zero e = refl
+accepted-made (c ∷ cs) [] (suc k) e = refl
+accepted-made (c ∷ cs) (x ∷ xs) zero e = absurd (omega arith)
+accepted-made (c ∷ cs) (x ∷ xs) (suc k) e = ap (λ (z : List ℕ). acceptedIn c x ++ z) (accepted-made cs xs k (omega arith))
+
 pub law-holds : (u : Frame) (s : Sealer) (h : ClosedHeading) (n : ℕ) (calls : List SealCall) (answers answers′ : List SealAnswer) (out out′ : List ℕ) (w : ℕ) (m : Meaning) → s .n ≡ n → s .k ≡ 0 → s .settings ≡ h .settings
     → Drives m s calls answers answers′ out out′ w → u .cipher ≡ m → Closes u h → Sealing u [] s → SealerLaw u n calls answers answers′ out out′ w
 law-holds u s h n calls answers answers′ out out′ w m en ek es d ec closes o =
     let up = d .upto in
     let k : ℕ = made calls answers in
-    let acc : List ℕ = accepted (take k calls) (take k answers′) in
-    let did = up .bytes u ec o in
+    let acc : List ℕ = accepted calls answers′ in
+    let all : accepted (take k calls) (take k answers′) ≡ acc = accepted-made calls answers′ k (ap (min (length calls)) (sym (d .long))) in
+    let B : List ℕ → Type 0 = λ x. Stands (s .n) u x (d .end) × (output u x (d .end) ≡ output u [] (Some s) ++ take w out′) in
+    let did : B acc = subst B all (up .bytes u ec o) in
     let none : sealedBlocks (s .n) (s .k) ≡ 0 = omega arith in
     let written : output u acc (d .end) ≡ take w out′ = did .1 ∙ ap (λ (i : ℕ). places u (innerX u []) i ++ take w out′) none in
-    let T : ℕ → Type 0 = λ t. Answered t (eqb (fOf u) 1) n calls answers answers′ out out′ w in
-    let F : Bool → Type 0 = λ f. Answered (h .settings .interval) f n calls answers answers′ out out′ w in
+    let rules = answered m s (h .settings) n calls answers answers′ out out′ w en ek es d in
+    let A : ℕ → Bool → Type 0 = λ t f. take k answers′ ≡ answersOf t f n (taking 0) (length out) (take k calls) in
     let some : 1 ≤ n = omega (arith, d .some) in
     let keeps : Keeps (s .settings) n (d .end) = subst (λ (i : ℕ). Keeps (s .settings) i (d .end)) en (up .kept) in
     let stands : Stands n u acc (d .end) = subst (λ (i : ℕ). Stands i u acc (d .end)) en (did .0) in
     record {
-      rules = subst T (sym (interval-is u (h .settings) (closes .chosen))) (subst F (sym (short-is u (h .settings) (closes .chosen))) (answered m s (h .settings) n calls answers answers′ out out′ w en ek es d));
+      answered = subst (λ (t : ℕ). A t (eqb (fOf u) 1)) (sym (interval-is u (h .settings) (closes .chosen))) (subst (A (h .settings .interval)) (sym (short-is u (h .settings) (closes .chosen))) (rules .answered));
       handed = λ x l b. handed-by u (s .settings) n acc x (take w out′) (d .end) some keeps stands written l b;
       whole = λ x f.
           let e = up .ended x f in
           whole-by u n acc (take w out′) (d .end) x stands written (e .0) (e .1 ∙ ap (λ (i : ℕ). markOf (cond (eqb (i % 16) 0) 1 0)) en);
+      rest = (rules .within, rules .rest, rules .untouched);
     }

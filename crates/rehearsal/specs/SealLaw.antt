@@ -96,23 +96,24 @@ Finishes (Ended ∷ xs) m = Finishes xs m
 abbrev pub made : List SealCall → List SealAnswer → ℕ
 made calls answers = min (length calls) (length answers)
 
--- under any cipher
+-- under any cipher: each call is answered by the rules, and nothing else is written
 pub record Answered (t : ℕ) (f : Bool) (n : ℕ) (calls : List SealCall) (answers answers′ : List SealAnswer) (out out′ : List ℕ) (w : ℕ) : Type 0 where
   pub answered : take (made calls answers) answers′ ≡ answersOf t f n (taking 0) (length out) (take (made calls answers) calls)
   pub untouched : drop (made calls answers) answers′ ≡ drop (made calls answers) answers
   pub rest : drop w out′ ≡ drop w out
   pub within : w ≤ length out
 
+-- under the cipher of a frame that the heading stands for
 pub record SealerLaw (u : Frame) (n : ℕ) (calls : List SealCall) (answers answers′ : List SealAnswer) (out out′ : List ℕ) (w : ℕ) : Type 0 where
-  -- each call is answered by the rules, and nothing else is written
-  pub rules : Answered (tOf u) (eqb (fOf u) 1) n calls answers answers′ out out′ w
+  -- each call is answered by the rules
+  pub answered : take (made calls answers) answers′ ≡ answersOf (tOf u) (eqb (fOf u) 1) n (taking 0) (length out) (take (made calls answers) calls)
   -- what was handed over begins the stream of every message that the accepted bytes may still become
-  pub handed : (m : List ℕ) → length m ≡ n → Begins (accepted (take (made calls answers) calls) (take (made calls answers) answers′)) m → Begins (take w out′) (stream u m)
+  pub handed : (m : List ℕ) → length m ≡ n → Begins (accepted calls answers′) m → Begins (take w out′) (stream u m)
   -- an accepted finish has handed over the whole stream, with its mark
   pub whole : (k : Mark) → Finishes (take (made calls answers) answers′) k
-      → (length (accepted (take (made calls answers) calls) (take (made calls answers) answers′)) ≡ n)
-      × (take w out′ ≡ stream u (accepted (take (made calls answers) calls) (take (made calls answers) answers′)))
-      × (k ≡ markOf (mark (accepted (take (made calls answers) calls) (take (made calls answers) answers′))))
+      → (length (accepted calls answers′) ≡ n) × (take w out′ ≡ stream u (accepted calls answers′)) × (k ≡ markOf (mark (accepted calls answers′)))
+  -- the rest of the output and the places for more answers are untouched
+  pub rest : (w ≤ length out) × (drop w out′ ≡ drop w out) × (drop (made calls answers) answers′ ≡ drop (made calls answers) answers)
 
 -- ONE CALL, on what is held
 

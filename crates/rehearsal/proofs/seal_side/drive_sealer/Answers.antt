@@ -1,6 +1,3 @@
-use mathlib.Core.Path.{_≡_, refl, sym, _∙_}
-use native.Mathlib.Omega.{arith}
-use borrow.Author.Needs.{needs}
 use Rattle.rehearsal.proofs.SealSteps.{answered, law-holds}
 use Rattle.rehearsal.proofs.seal_side.drive_sealer.Needs as need
 

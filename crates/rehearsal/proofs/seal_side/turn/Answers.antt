@@ -1,8 +1,7 @@
 use mathlib.Core.Path.{_≡_}
-use Prim.Native.Nat.{_+_, _-_, _≤_, min}
+use Prim.Native.Nat.{_+_, _-_, min}
 use native.Mathlib.Omega.{arith}
 use lib.ListN.{length}
-use borrow.Author.Needs.{needs}
 use Rattle.rehearsal.specs.SealLaw.{roomOf}
 use Rattle.rehearsal.proofs.SealSteps.{turns}
 use Rattle.rehearsal.proofs.seal_side.turn.Needs as need
