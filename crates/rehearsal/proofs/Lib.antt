@@ -1,0 +1,4 @@
+pub mod Windows
+pub mod Standings
+pub mod OpenTurns
+pub mod OpenRuns
