@@ -221,6 +221,7 @@ module _ (u : Frame) (S k : ℕ) (b : Progress) (o : Opener) (sound : Sound u) (
             answer = cc;
             phase-is = refl;
             blocks = (take (x .1) out′, length-take-le (x .1) out′ (omega arith) ∙ e1, refl);
+            genuine = grown (x .1) _ o′ out′ op rel (d .1) .keeps;
           } in
           (gone (x .1) out′, record { taken-is = refl; judged = inl g }, grown (x .1) _ o′ out′ op rel (d .1), refl)
       judge out (Err e) o′ out′ w len d never =

@@ -90,6 +90,7 @@ module _ (u : Frame) (S k : ℕ) where
     pub answer : x ≡ Took (takes b piece) (16 * tOf u)
     pub phase-is : a .phase ≡ filling
     pub blocks : (w : List ℕ) × (length w ≡ 16 * tOf u) × (a .let-out ≡ b .let-out ++ w)
+    pub genuine : (m : List ℕ) → MessageOf u S k m → Begins (more b piece) (stream u m) → Begins (a .let-out) m
 
   pub record BadCheck (b : Progress) (piece : List ℕ) (x : OpenAnswer) (a : Progress) : Type 0 where
     pub no-message : Extends u S k (more b piece) → ⊥
@@ -220,19 +221,24 @@ Runs c o calls out n w answers′ out′ =
     (u : Frame) (S k : ℕ) → u .cipher ≡ c → Sound u → At u S k start o
     → (end : Progress) × OpenRun u S k start (length out) (take n calls) (take n answers′) end × Released u S k end × (end .let-out ≡ take w out′)
 
--- the whole
-pub record Refuses (h : ClosedHeading) (S k : ℕ) (e : Refusal) : Type 0 where
-  pub cause : ((h .settings .interval ≡ 0) × (e ≡ why.NoChecks))
-      ⊎ ((1 ≤ h .settings .interval) × (e ≡ why.StreamLength) × ((u : Frame) → settingsBytes (h .settings) ≡ u .settings → (m : List ℕ) → MessageOf u S k m → ⊥))
+-- no start without checks, nor where no message has that length and mark; then nothing is written
+abbrev pub RefusedWhen : ClosedHeading → (S k : ℕ) (out : List ℕ) → List OpenAnswer → Result ℕ Refusal → (out′ : List ℕ) → List OpenAnswer → Type 0
+RefusedWhen h S k out answers (Ok w) out′ answers′ = (1 ≤ h .settings .interval) × ((u : Frame) → settingsBytes (h .settings) ≡ u .settings → (m : List ℕ) × MessageOf u S k m)
+RefusedWhen h S k out answers (Err e) out′ answers′ =
+    (((h .settings .interval ≡ 0) × (e ≡ why.NoChecks))
+    ⊎ ((1 ≤ h .settings .interval) × (e ≡ why.StreamLength) × ((u : Frame) → settingsBytes (h .settings) ≡ u .settings → (m : List ℕ) → MessageOf u S k m → ⊥)))
+    × (out′ ≡ out) × (answers′ ≡ answers)
 
-pub record Driven (c : Meaning) (h : ClosedHeading) (S k : ℕ) (calls : List OpenCall) (out : List ℕ) (answers : List OpenAnswer) (w : ℕ) (out′ : List ℕ) (answers′ : List OpenAnswer) : Type 0 where
-  pub checked : 1 ≤ h .settings .interval
-  pub some : (u : Frame) → settingsBytes (h .settings) ≡ u .settings → (m : List ℕ) × MessageOf u S k m
-  pub fits : w ≤ length out
-  pub rest : drop w out′ ≡ drop w out
-  pub behind : drop (min (length calls) (length answers)) answers′ ≡ drop (min (length calls) (length answers)) answers
-  pub law : (u : Frame) → u .cipher ≡ c → Closes u h → OpenerLaw u S k (take (min (length calls) (length answers)) calls) (take (min (length calls) (length answers)) answers′) out out′ w
+-- how many calls are made: as many as there are places for answers
+abbrev pub made : List OpenCall → List OpenAnswer → ℕ
+made calls answers = min (length calls) (length answers)
 
-abbrev pub Drives : Meaning → ClosedHeading → (S k : ℕ) → List OpenCall → (out : List ℕ) → List OpenAnswer → Result ℕ Refusal → (out′ : List ℕ) → List OpenAnswer → Type 0
-Drives c h S k calls out answers (Ok w) out′ answers′ = Driven c h S k calls out answers w out′ answers′
-Drives c h S k calls out answers (Err e) out′ answers′ = Refuses h S k e × (out′ ≡ out) × (answers′ ≡ answers)
+abbrev pub LawAt : Meaning → ClosedHeading → (S k : ℕ) → List OpenCall → (out : List ℕ) → List OpenAnswer → Result ℕ Refusal → (out′ : List ℕ) → List OpenAnswer → Type 0
+LawAt c h S k calls out answers (Ok w) out′ answers′ =
+    (u : Frame) → u .cipher ≡ c → Closes u h → OpenerLaw u S k (take (made calls answers) calls) (take (made calls answers) answers′) out out′ w
+LawAt c h S k calls out answers (Err e) out′ answers′ = Unit {0}
+
+-- what stands behind the bytes let out and behind the answers is as it was
+abbrev pub Untouched : List OpenCall → (out : List ℕ) → List OpenAnswer → Result ℕ Refusal → (out′ : List ℕ) → List OpenAnswer → Type 0
+Untouched calls out answers (Ok w) out′ answers′ = (w ≤ length out) × (drop w out′ ≡ drop w out) × (drop (made calls answers) answers′ ≡ drop (made calls answers) answers)
+Untouched calls out answers (Err e) out′ answers′ = Unit {0}

@@ -2,10 +2,8 @@
 ghost use mathlib.Core.Path.{_≡_};
 ghost use Prim.Native.Nat.{ℕ, min, _+_, _-_, _≤_};
 ghost use lib.ListN.{length, take, drop};
-ghost use Rattle.elmd.specs.Stream.{Frame};
-ghost use Rattle.elmd.specs.Heading.{Closes};
 ghost use Rattle.elmd.specs.Refusals.{markNumber};
-ghost use Rattle.rehearsal.specs.OpenLaw.{roomOf, Within, Wrote, PutDoes, FinishDoes, Does, Turns, Runs, Drives};
+ghost use Rattle.rehearsal.specs.OpenLaw.{roomOf, Within, Wrote, PutDoes, FinishDoes, Does, Turns, Runs, RefusedWhen, LawAt, Untouched};
 use crate::open_calls::OpenAnswer;
 use crate::open_calls::OpenCall;
 use cipher::Cipher;
@@ -117,7 +115,9 @@ pub(crate) fn drive_opener<C: Cipher>(
     out: &mut [u8],
     answers: &mut [OpenAnswer],
 ) -> Result<usize, Refusal>
-    ensures drives { λ r. ⌜ Drives (C·Cipher .meaning (now (c .entry))) h «stream_length» (markNumber mark) (now (calls .entry)) (now (out .entry)) (now (answers .entry)) r (now (out .exit)) (now (answers .exit)) ⌝ }
+    ensures refused { λ r. ⌜ RefusedWhen h «stream_length» (markNumber mark) (now (out .entry)) (now (answers .entry)) r (now (out .exit)) (now (answers .exit)) ⌝ }
+    ensures law { λ r. ⌜ LawAt (C·Cipher .meaning (now (c .entry))) h «stream_length» (markNumber mark) (now (calls .entry)) (now (out .entry)) (now (answers .entry)) r (now (out .exit)) (now (answers .exit)) ⌝ }
+    ensures rest { λ r. ⌜ Untouched (now (calls .entry)) (now (out .entry)) (now (answers .entry)) r (now (out .exit)) (now (answers .exit)) ⌝ }
     ensures same { λ _. ⌜ C·Cipher .meaning (now (c .exit)) ≡ C·Cipher .meaning (now (c .entry)) ⌝ }
 {
     let mut place = Opener::unused();

@@ -25,7 +25,6 @@ mod sealer;
 mod state;
 mod step;
 
-pub use begun::Sealer;
 use state::Running;
 use step::seal_end;
 use step::seal_front;
