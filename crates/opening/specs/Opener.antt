@@ -59,6 +59,13 @@ putRefusal o n room =
 abbrev pub finishRefusal : Opener → (room : ℕ) → Option Refusal
 finishRefusal o room = cond (ltb (o .taken) (o .size)) (Some why.StreamMissing) (cond (ltb room (lastRoom o)) (Some why.RoomShort) None)
 
+-- the two calls
+abbrev pub putCall : (n room : ℕ) → Call
+putCall n room = Put n room
+
+abbrev pub finishCall : (room : ℕ) → Call
+finishCall room = Finish room
+
 -- each phase with each call
 abbrev pub refusedAt : Phase → Opener → Call → Option Refusal
 refusedAt ph.Over o call = Some why.Over

@@ -1,1 +1,6 @@
 pub mod SealSteps
+pub mod Windows
+pub mod Standings
+pub mod OpenTurns
+pub mod OpenRuns
+pub mod Joining

@@ -1,1 +1,4 @@
 pub mod SealLaw
+pub mod OpenLaw
+pub mod Joined
+pub mod Law
