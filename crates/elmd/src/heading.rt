@@ -141,6 +141,12 @@ fn last_link<C: Cipher>(c: &mut C, chain: Block, mask: Block, tail: &[u8]) -> Bl
 }
 
 impl ClosedHeading {
+    pub fn settings(&self) -> Settings
+        ensures { λ r. ⌜ r ≡ now (self .entry) .settings ⌝ }
+    {
+        self.settings
+    }
+
     pub fn into_parts(self) -> (Settings, Block, Block)
         ensures { λ r. ⌜ r ≡ (self .settings, self .base, self .iv) ⌝ }
     {

@@ -10,13 +10,11 @@ use Rattle.std.specs.declared.option.Option.{Option}
 use Rattle.std.specs.declared.option.Option.the-variants.{Some, None}
 use Rattle.std.specs.declared.result.Result.{Result}
 use Rattle.std.specs.declared.result.Result.the-variants.{Ok, Err}
-use Rattle.block.specs.declared.raw.Block.{Block}
 use Rattle.block.specs.Bytes.{Bytes}
 use Rattle.cipher.specs.Meaning.{Meaning}
 use Rattle.elmd.specs.declared.refusal.Refusal.{Refusal}
 use Rattle.elmd.specs.declared.refusal.Refusal.the-variants as why
 use Rattle.elmd.specs.declared.refusal.Mark.{Mark}
-use Rattle.elmd.specs.declared.settings.Settings.{Settings}
 use Rattle.elmd.specs.declared.state.ClosedHeading.{ClosedHeading}
 use Rattle.elmd.specs.Refusals.{markNumber}
 use Rattle.elmd.specs.Settings.{settingsBytes}
@@ -177,20 +175,17 @@ pub record Started (h : ClosedHeading) (S : ℕ) (mark : Mark) (o : Opener) : Ty
   pub none : o .taken ≡ 0
   pub unchecked : o .state .checks ≡ 0
 
-abbrev pub Parts : Type 0
-Parts = Settings × Block × Block
-
 -- no start without checks, nor where no message has that length and mark; then the place is as it was
-pub record NotBegun (h : ClosedHeading) (S : ℕ) (mark : Mark) (o : Opener) (e : Refusal) (back : Parts) (o′ : Opener) : Type 0 where
-  pub handed : back ≡ (h .settings, h .base, h .iv)
+pub record NotBegun (h : ClosedHeading) (S : ℕ) (mark : Mark) (o : Opener) (e : Refusal) (back : ClosedHeading) (o′ : Opener) : Type 0 where
+  pub handed : back ≡ h
   pub kept : o′ ≡ o
   pub cause : ((h .settings .interval ≡ 0) × (e ≡ why.NoChecks))
       ⊎ ((1 ≤ h .settings .interval) × (e ≡ why.StreamLength) × ((u : Frame) → settingsBytes (h .settings) ≡ u .settings → (m : List ℕ) → MessageOf u S (markNumber mark) m → ⊥))
 
-abbrev pub Begun : ClosedHeading → (S : ℕ) → Mark → Opener → Result Unit (Refusal × Parts) → Opener → Type 0
+abbrev pub Begun : ClosedHeading → (S : ℕ) → Mark → Opener → Result Unit (Refusal × ClosedHeading) → Opener → Type 0
 Begun h S mark o (Ok x) o′ = (1 ≤ h .settings .interval) × Started h S mark o′ × ((u : Frame) → settingsBytes (h .settings) ≡ u .settings → Laid u S (markNumber mark) (o′ .shape))
 Begun h S mark o (Err x) o′ = NotBegun h S mark o (x .0) (x .1) o′
 
-abbrev pub Begins : ClosedHeading → Result Unit (Refusal × Parts) → Opener → Type 0
+abbrev pub Begins : ClosedHeading → Result Unit (Refusal × ClosedHeading) → Opener → Type 0
 Begins h (Ok x) o′ = (u : Frame) → Rattle.elmd.specs.Heading.Closes u h → Opening u [] o′
 Begins h (Err x) o′ = Unit {0}

@@ -62,18 +62,19 @@ impl Opener {
         h: ClosedHeading,
         stream_length: usize,
         mark: Mark,
-    ) -> Result<(), (Refusal, (Settings, Block, Block))>
+    ) -> Result<(), (Refusal, ClosedHeading)>
         ensures begun { λ r. ⌜ Begun h «stream_length» mark (now (place .entry)) r (now (place .exit)) ⌝ }
         ensures opens { λ r. ⌜ Begins h r (now (place .exit)) ⌝ }
     {
-        let (settings, base, iv) = h.into_parts();
+        let settings = h.settings();
         if settings.interval == 0 {
-            return Err((Refusal::NoChecks, (settings, base, iv)));
+            return Err((Refusal::NoChecks, h));
         }
         let shape = match settings.shape(stream_length, mark) {
             Ok(shape) => shape,
-            Err(why) => return Err((why, (settings, base, iv))),
+            Err(why) => return Err((why, h)),
         };
+        let (_, base, iv) = h.into_parts();
         place.phase = Phase::Filling;
         place.settings = settings;
         place.shape = shape;

@@ -18,7 +18,7 @@ use Rattle.opening.proofs.place.Opener.begin.Needs as need
 
 pub ghost-place : need.ghost-place
 ghost-place c =
-    let s = c .into-parts .result .0 in
+    let s = c .settings-settings .result in
     let u = plain-frame s in
     let laid = c .in-Ok .ensures tt u refl in
     let t : 1 ≤ s .interval = (let z = c .if-settings-eq0 .left in omega (arith, z)) in
@@ -29,9 +29,9 @@ ghost-place c =
 
 pub returns : need.returns
 returns c =
-    let s = c .into-parts .result .0 in
+    let s = c .settings-settings .result in
     let parts = c .into-parts .ensures in
-    let es : s ≡ c .args .h .settings = ap (λ q. q .0) parts in
+    let es : s ≡ c .args .h .settings = c .settings-settings .ensures in
     let t : 1 ≤ s .interval = (let z = c .if-settings-eq0 .left in omega (arith, z)) in
     record {
       begun = (
