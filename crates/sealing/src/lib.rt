@@ -25,6 +25,7 @@ mod sealer;
 mod state;
 mod step;
 
+pub use begun::Sealer;
 use state::Running;
 use step::seal_end;
 use step::seal_front;
