@@ -1,4 +1,5 @@
 pub mod SealSteps
+pub mod Sides
 pub mod Windows
 pub mod Standings
 pub mod OpenTurns

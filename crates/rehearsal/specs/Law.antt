@@ -16,7 +16,7 @@ use Rattle.rehearsal.specs.declared.open_calls.OpenCall.{OpenCall}
 use Rattle.rehearsal.specs.declared.open_calls.OpenAnswer.{OpenAnswer}
 use Rattle.rehearsal.specs.Joined.{headingAnswer}
 use Rattle.rehearsal.specs.SealLaw.{SealerLaw}
-use Rattle.rehearsal.specs.OpenLaw.{OpenerLaw, made, Within}
+use Rattle.rehearsal.specs.OpenLaw.{OpenerLaw, made, Untouched}
 
 -- the refusal of the settings and the heading, under which nothing is begun
 abbrev pub frontOf : Frame → Result Unit Refusal
@@ -37,3 +37,5 @@ pub record OpenerSide (u : Frame) (S k : ℕ) (calls : List OpenCall) (answers a
   pub no-message : frontOf u ≡ Ok tt → 1 ≤ tOf u → ((m : List ℕ) → MessageOf u S k m → ⊥) → Nothing StreamLength answers answers′ out out′ r
   pub law : frontOf u ≡ Ok tt → 1 ≤ tOf u → (m : List ℕ) → MessageOf u S k m
       → (w : ℕ) × (r ≡ Ok w) × OpenerLaw u S k (take (made calls answers) calls) (take (made calls answers) answers′) out out′ w
+  -- what stands behind the bytes let out and behind the answers is as it was
+  pub rest : Untouched calls out answers r out′ answers′

@@ -12,7 +12,12 @@ use elmd::state::ClosedHeading;
 use elmd::state::OpenHeading;
 
 // Opens a heading, adds each piece, and closes it.
-pub(crate) fn closed_heading<C: Cipher>(c: &mut C, settings: &[u8; 8], nonce: &[u8; 8], pieces: &[&[u8]]) -> Result<ClosedHeading, Refusal>
+pub(crate) fn closed_heading<C: Cipher>(
+    c: &mut C,
+    settings: &[u8; 8],
+    nonce: &[u8; 8],
+    pieces: &[&[u8]],
+) -> Result<ClosedHeading, Refusal>
     ensures answer { λ r. ⌜ told r ≡ headingAnswer (C·Cipher .meaning (now (c .entry)) .label) (now (settings .entry)) (joinedBytes (now (pieces .entry))) ⌝ }
     ensures closes { λ r. ⌜ made r (Closes (frameOf (C·Cipher .meaning (now (c .entry))) (now (settings .entry)) (now (nonce .entry)) (joinedBytes (now (pieces .entry))))) ⌝ }
     ensures same { λ _. ⌜ C·Cipher .meaning (now (c .exit)) ≡ C·Cipher .meaning (now (c .entry)) ⌝ }
