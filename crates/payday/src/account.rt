@@ -9,6 +9,7 @@ use std::error::AnyError;
 pub(crate) struct Account {
     sealed: u32,
     opened: u32,
+    streamed: u32,
     refused: u32,
     by_number: BTreeMap<u8, u32>,
     message_bytes: u64,
@@ -21,6 +22,7 @@ impl Account {
         Account {
             sealed: 0,
             opened: 0,
+            streamed: 0,
             refused: 0,
             by_number: BTreeMap::new(heap),
             message_bytes: 0,
@@ -40,6 +42,10 @@ impl Account {
         self.opened_bytes = self.opened_bytes.wrapping_add(message as u64);
     }
 
+    pub(crate) fn note_streamed(&mut self) {
+        self.streamed = self.streamed.wrapping_add(1);
+    }
+
     pub(crate) fn note_refused(&mut self, why: Refusal) -> Result<(), AllocError> {
         self.refused = self.refused.wrapping_add(1);
         let count = self.by_number.entry(why.number())?.or_insert(0);
@@ -50,6 +56,7 @@ impl Account {
     pub(crate) fn print(&self, rt: &LibcRuntime) -> Result<(), AnyError> {
         let sealed = self.sealed;
         let opened = self.opened;
+        let streamed = self.streamed;
         let refused = self.refused;
         let message = self.message_bytes;
         let stream = self.stream_bytes;
@@ -63,6 +70,7 @@ impl Account {
             rt,
             "  opened   {opened:>3} times: {out} bytes of wages let out"
         )?;
+        println!(rt, "  streamed {streamed:>3} files, line by line")?;
         println!(rt, "  refused  {refused:>3} times")?;
         for (number, count) in self.by_number.iter() {
             println!(rt, "    number {number}: {count:>3}")?;

@@ -10,11 +10,14 @@ use speck::SpeckCipher;
 use std::error::AnyError;
 
 mod account;
+mod calls;
 mod parcel;
+mod parts;
 mod run;
 mod wages;
 
 use account::Account;
+use calls::all_calls;
 use run::Order;
 use run::deliver;
 
@@ -119,6 +122,8 @@ fn pay_run(rt: &LibcRuntime) -> Result<(), AnyError> {
     office(rt, &mut account, heading.as_str(), sheet.as_bytes())?;
     terminal(rt, &mut account, heading.as_str(), sheet.as_bytes())?;
     old_terminal(rt, &mut account, heading.as_str(), sheet.as_bytes())?;
+    let mut c = Speck::new(Block::from_bytes(&key(0x3c)));
+    all_calls(rt, &mut account, &mut c, settings(32, 2, false)?)?;
     account.print(rt)
 }
 

@@ -30,7 +30,7 @@ impl Parcel {
     }
 
     // Turns the lowest bit of a byte of the stream.
-    fn turn(&mut self, at: usize) {
+    pub(crate) fn turn(&mut self, at: usize) {
         if let Some(byte) = self.stream.get_mut(at) {
             *byte ^= 1;
         }

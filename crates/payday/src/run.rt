@@ -4,6 +4,7 @@ use crate::parcel::MISHAPS;
 use crate::parcel::MishapDisplay;
 use crate::parcel::Parcel;
 use crate::parcel::Plan;
+use crate::parts::open_in_parts;
 use cipher::Cipher;
 use elmd::refusal::Mark;
 use elmd::refusal::Refusal;
@@ -26,10 +27,15 @@ pub(crate) struct Order<'a> {
     pub(crate) wages: &'a [u8],
 }
 
-fn words(why: Refusal) -> &'static str {
+pub(crate) fn words(why: Refusal) -> &'static str {
     match why {
         Refusal::OtherLabel => "the settings are another cipher's",
         Refusal::OutputShort => "no room for the stream",
+        Refusal::BytesMissing => "bytes of the message are missing",
+        Refusal::PieceTooLong => "a piece longer than what is missing",
+        Refusal::NoChecks => "a file without checks is opened whole",
+        Refusal::Over => "the opening is over",
+        Refusal::StreamMissing => "bytes of the stream are missing",
         Refusal::StreamLength => "no file has this length and mark",
         Refusal::RoomShort => "no room for the wages",
         Refusal::BadCheck(_) => "a check does not hold",
@@ -241,6 +247,12 @@ pub(crate) fn deliver<C: Cipher>(
         order.wages,
         room.saturating_sub(1),
     )?;
+    let came = "handed over in pieces of odd sizes";
+    open_in_parts(rt, account, c, came, &parcel)?;
+    let mut damaged = parcel.copied()?;
+    damaged.turn(parcel.stream.len() / 2);
+    let bit = "the same with a bit turned half way";
+    open_in_parts(rt, account, c, bit, &damaged)?;
     println!(rt, "")?;
     Ok(())
 }
