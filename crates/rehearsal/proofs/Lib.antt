@@ -5,3 +5,4 @@ pub mod Standings
 pub mod OpenTurns
 pub mod OpenRuns
 pub mod Joining
+pub mod Spoiling

@@ -160,6 +160,9 @@ module _ (u : Frame) (S k : ℕ) where
   abbrev pub Released : Progress → Type 0
   Released b = (m : List ℕ) → MessageOf u S k m → Begins (b .taken) (stream u m) → Begins (b .let-out) m
 
+  abbrev pub RightlySpoiled : Progress → Type 0
+  RightlySpoiled b = b .phase ≡ spoiled → Sealed u S k (b .taken) → ⊥
+
 -- THE LAW
 
 pub record OpenerLaw (u : Frame) (S k : ℕ) (calls : List OpenCall) (answers : List OpenAnswer) (out out′ : List ℕ) (w : ℕ) : Type 0 where
@@ -167,6 +170,8 @@ pub record OpenerLaw (u : Frame) (S k : ℕ) (calls : List OpenCall) (answers : 
   pub answered : OpenRun u S k start (length out) calls answers end
   pub let-out-is : end .let-out ≡ take w out′
   pub released : Released u S k end
+  -- after a wrong check or end no message has the bytes taken in as its whole stream, so that no right finish is refused
+  pub rightly-spoiled : RightlySpoiled u S k end
   pub one : (m n : List ℕ) → MessageOf u S k m → MessageOf u S k n → stream u m ≡ stream u n → m ≡ n
 
 -- THE PARTS
