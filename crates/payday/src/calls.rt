@@ -96,6 +96,38 @@ pub(crate) fn all_calls<C: Cipher>(
     Ok(())
 }
 
+fn seal_calls() -> [SealCall<'static>; 6] {
+    let (front, back) = (&MESSAGE[0..17], &MESSAGE[17..40]);
+    [
+        put(front, 16),
+        SealCall::Finish { room: 96 },
+        put(back, 8),
+        put(back, 32),
+        SealCall::Finish { room: 32 },
+        SealCall::Finish { room: 32 },
+    ]
+}
+
+fn put(piece: &[u8], room: usize) -> SealCall<'_> {
+    SealCall::Put { piece, room }
+}
+
+fn take(piece: &[u8], room: usize) -> OpenCall<'_> {
+    OpenCall::Put { piece, room }
+}
+
+fn open_calls(stream: &[u8; 80]) -> [OpenCall<'_>; 7] {
+    [
+        take(&stream[0..31], 0),
+        take(&stream[31..80], 0),
+        take(&stream[31..80], 32),
+        OpenCall::Finish { room: 16 },
+        take(&stream[48..80], 0),
+        OpenCall::Finish { room: 16 },
+        OpenCall::Finish { room: 16 },
+    ]
+}
+
 fn run_calls<C: Cipher>(
     c: &mut C,
     settings: &[u8; 8],
@@ -107,56 +139,20 @@ fn run_calls<C: Cipher>(
     open_answers: &mut [OpenAnswer],
 ) -> Result<(), AnyError> {
     let pieces: [&[u8]; 2] = [b"12", b"3"];
-    let seal_calls = [
-        SealCall::Put {
-            piece: &MESSAGE[0..17],
-            room: 16,
-        },
-        SealCall::Finish { room: 96 },
-        SealCall::Put {
-            piece: &MESSAGE[17..40],
-            room: 8,
-        },
-        SealCall::Put {
-            piece: &MESSAGE[17..40],
-            room: 32,
-        },
-        SealCall::Finish { room: 32 },
-        SealCall::Finish { room: 32 },
-    ];
-    let open_calls = [
-        OpenCall::Put {
-            piece: &stream[0..31],
-            room: 0,
-        },
-        OpenCall::Put {
-            piece: &stream[31..80],
-            room: 0,
-        },
-        OpenCall::Put {
-            piece: &stream[31..80],
-            room: 32,
-        },
-        OpenCall::Finish { room: 16 },
-        OpenCall::Put {
-            piece: &stream[48..80],
-            room: 0,
-        },
-        OpenCall::Finish { room: 16 },
-        OpenCall::Finish { room: 16 },
-    ];
+    let puts = seal_calls();
+    let takes = open_calls(stream);
     match rehearse(
         c,
         settings,
         &NONCE,
         &pieces,
         40,
-        &seal_calls,
+        &puts,
         sealed,
         seal_answers,
         80,
         mark,
-        &open_calls,
+        &takes,
         opened,
         open_answers,
     ) {

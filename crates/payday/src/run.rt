@@ -205,54 +205,51 @@ pub(crate) fn deliver<C: Cipher>(
         "  laid out: {blocks} blocks, {checks} checks, {tag} bytes of the tag"
     )?;
     let room = blocks.saturating_mul(16);
+    befallen(rt, account, c, order, &parcel, plan, checks)?;
+    let key = "opened with another key";
+    attempt(rt, account, other, &key, &parcel, order.wages, room)?;
+    let exact = "room of exactly the blocks";
+    attempt(rt, account, c, &exact, &parcel, order.wages, room)?;
+    let short = "room one byte short";
+    let less = room.saturating_sub(1);
+    attempt(rt, account, c, &short, &parcel, order.wages, less)?;
+    in_parts(rt, account, c, &parcel)?;
+    println!(rt, "")?;
+    Ok(())
+}
+
+// Opens each copy of a parcel that something befell.
+fn befallen<C: Cipher>(
+    rt: &LibcRuntime,
+    account: &mut Account,
+    c: &mut C,
+    order: &Order<'_>,
+    parcel: &Parcel,
+    plan: Plan,
+    checks: usize,
+) -> Result<(), AnyError> {
+    let room = parcel.stream.len().saturating_add(48);
     for mishap in MISHAPS.iter() {
         if checks >= 2 || !mishap.needs_checks() {
             let mut copy = parcel.copied()?;
             mishap.befall(&mut copy, plan)?;
-            attempt(
-                rt,
-                account,
-                c,
-                mishap,
-                &copy,
-                order.wages,
-                room.saturating_add(48),
-            )?;
+            attempt(rt, account, c, mishap, &copy, order.wages, room)?;
         }
     }
-    attempt(
-        rt,
-        account,
-        other,
-        &"opened with another key",
-        &parcel,
-        order.wages,
-        room,
-    )?;
-    attempt(
-        rt,
-        account,
-        c,
-        &"room of exactly the blocks",
-        &parcel,
-        order.wages,
-        room,
-    )?;
-    attempt(
-        rt,
-        account,
-        c,
-        &"room one byte short",
-        &parcel,
-        order.wages,
-        room.saturating_sub(1),
-    )?;
+    Ok(())
+}
+
+// Opens a parcel as it comes in, and a copy of it that is damaged half way.
+fn in_parts<C: Cipher>(
+    rt: &LibcRuntime,
+    account: &mut Account,
+    c: &mut C,
+    parcel: &Parcel,
+) -> Result<(), AnyError> {
     let came = "handed over in pieces of odd sizes";
-    open_in_parts(rt, account, c, came, &parcel)?;
+    open_in_parts(rt, account, c, came, parcel)?;
     let mut damaged = parcel.copied()?;
     damaged.turn(parcel.stream.len() / 2);
     let bit = "the same with a bit turned half way";
-    open_in_parts(rt, account, c, bit, &damaged)?;
-    println!(rt, "")?;
-    Ok(())
+    open_in_parts(rt, account, c, bit, &damaged)
 }
