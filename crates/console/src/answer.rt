@@ -123,7 +123,12 @@ impl Given {
     }
 
     // Writes the reply to a line behind what was written.
-    pub fn answer(&self, line: &Line, heap: Global, out: &mut Vec<u8>) -> Result<(), AllocError>
+    pub(crate) fn answer(
+        &self,
+        line: &Line,
+        heap: Global,
+        out: &mut Vec<u8>,
+    ) -> Result<(), AllocError>
         requires { ⌜ Sized (commandOf (now line)) ⌝ }
         ensures { λ r. ⌜ made r (λ _. Adds (vec-items (now (out .entry))) (vec-items (now (out .exit))) (Reply (knownOf (now (self .entry))) (commandOf (now (line .entry))))) ⌝ }
     {

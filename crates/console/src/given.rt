@@ -1,9 +1,9 @@
 // What earlier lines gave.
 
 #[derive(Drop)]
-pub struct Given {
-    pub key: Option<[u8; 16]>,
-    pub nonce: Option<[u8; 8]>,
-    pub settings: Option<[u8; 8]>,
-    pub heading: Option<Vec<u8>>,
+pub(crate) struct Given {
+    pub(crate) key: Option<[u8; 16]>,
+    pub(crate) nonce: Option<[u8; 8]>,
+    pub(crate) settings: Option<[u8; 8]>,
+    pub(crate) heading: Option<Vec<u8>>,
 }

@@ -21,7 +21,7 @@ use std::alloc::Global;
 // A message of 4,096 bytes has 256 blocks, and a stream at most one check or tag behind each.
 const STREAM_MOST: usize = 8192;
 
-pub fn put_refusal(out: &mut Vec<u8>, number: u8) -> Result<(), AllocError>
+pub(crate) fn put_refusal(out: &mut Vec<u8>, number: u8) -> Result<(), AllocError>
     ensures { λ r. ⌜ made r (λ _. vec-items (now (out .exit)) ≡ vec-items (now (out .entry)) ++ refusalLine number) ⌝ }
 {
     let line = [b'R', b' ', b'0' + number / 10, b'0' + number % 10, b'\n'];
@@ -48,7 +48,7 @@ fn put_stream(out: &mut Vec<u8>, mark: Mark, stream: &[u8]) -> Result<(), AllocE
     Ok(())
 }
 
-pub fn put_block<C: Cipher>(
+pub(crate) fn put_block<C: Cipher>(
     c: &mut C,
     block: &[u8; 16],
     out: &mut Vec<u8>,
@@ -77,7 +77,7 @@ fn put_sealed_in<C: Cipher>(
 }
 
 // The stream of a message of up to 4,096 bytes, or why there is none.
-pub fn put_sealed<C: Cipher>(
+pub(crate) fn put_sealed<C: Cipher>(
     c: &mut C,
     settings: &[u8; 8],
     nonce: &[u8; 8],
@@ -120,7 +120,7 @@ fn put_opened_in<C: Cipher>(
 }
 
 // The message of a stream, or why there is none.
-pub fn put_opened<C: Cipher>(
+pub(crate) fn put_opened<C: Cipher>(
     c: &mut C,
     settings: &[u8; 8],
     nonce: &[u8; 8],

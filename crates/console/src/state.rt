@@ -6,7 +6,7 @@ use crate::given::Given;
 use crate::line::Line;
 
 impl Given {
-    pub fn new() -> Given
+    pub(crate) fn new() -> Given
         ensures { λ r. ⌜ knownOf r ≡ nothing ⌝ }
     {
         Given {
@@ -17,7 +17,7 @@ impl Given {
         }
     }
 
-    pub fn take(&mut self, line: Line)
+    pub(crate) fn take(&mut self, line: Line)
         ensures { λ _. ⌜ knownOf (now (self .exit)) ≡ after (knownOf (now (self .entry))) (commandOf line) ⌝ }
     {
         match line {

@@ -1,6 +1,6 @@
 // Every call of the library in parts, tried once on a short message: also those that are refused.
 use crate::account::Account;
-use crate::run::words;
+use crate::run::note_refused;
 use cipher::Cipher;
 use elmd::refusal::Mark;
 use elmd::refusal::Refusal;
@@ -18,10 +18,8 @@ const NONCE: [u8; 8] = [0, 0, 0, 0, 0, 0, 0x30, 0x04];
 const MESSAGE: [u8; 40] = [b'7'; 40];
 
 fn tell_refused(rt: &LibcRuntime, account: &mut Account, why: Refusal) -> Result<(), AnyError> {
-    account.note_refused(why)?;
-    let number = why.number();
-    let cause = words(why);
-    println!(rt, "refused {number}: {cause}")?;
+    note_refused(rt, account, why)?;
+    println!(rt, "")?;
     Ok(())
 }
 

@@ -1,7 +1,7 @@
 // A file in parts: the terminal pays each line as its check passes.
 use crate::account::Account;
 use crate::parcel::Parcel;
-use crate::run::words;
+use crate::run::note_refused;
 use cipher::Cipher;
 use elmd::heading::open_heading;
 use elmd::refusal::Refusal;
@@ -35,13 +35,8 @@ fn pay_lines(rt: &LibcRuntime, line: &mut Vec<u8>, out: &[u8]) -> Result<(), Any
 }
 
 fn tell_stopped(rt: &LibcRuntime, account: &mut Account, why: Refusal) -> Result<(), AnyError> {
-    account.note_refused(why)?;
-    let number = why.number();
-    let cause = words(why);
-    print!(rt, "    refused {number}: {cause}")?;
-    if let Refusal::BadCheck(j) = why {
-        print!(rt, ", check {j}")?;
-    }
+    print!(rt, "    ")?;
+    note_refused(rt, account, why)?;
     println!(rt, "; nothing more is let out")?;
     Ok(())
 }

@@ -27,7 +27,7 @@ pub(crate) struct Order<'a> {
     pub(crate) wages: &'a [u8],
 }
 
-pub(crate) fn words(why: Refusal) -> &'static str {
+fn words(why: Refusal) -> &'static str {
     match why {
         Refusal::OtherLabel => "the settings are another cipher's",
         Refusal::OutputShort => "no room for the stream",
@@ -42,6 +42,22 @@ pub(crate) fn words(why: Refusal) -> &'static str {
         Refusal::BadTag => "last block or tag does not hold",
         _ => "another cause",
     }
+}
+
+// Counts a refusal, and prints its number and cause.
+pub(crate) fn note_refused(
+    rt: &LibcRuntime,
+    account: &mut Account,
+    why: Refusal,
+) -> Result<(), AnyError> {
+    account.note_refused(why)?;
+    let number = why.number();
+    let cause = words(why);
+    print!(rt, "refused {number}: {cause}")?;
+    if let Refusal::BadCheck(j) = why {
+        print!(rt, ", check {j}")?;
+    }
+    Ok(())
 }
 
 // How many zeros an output begins with, where all behind them is blank still.
@@ -77,13 +93,8 @@ fn tell_refused(
     why: Refusal,
     out: &[u8],
 ) -> Result<(), AnyError> {
-    account.note_refused(why)?;
-    let number = why.number();
-    let cause = words(why);
-    print!(rt, "  {what:<42} refused {number}: {cause}")?;
-    if let Refusal::BadCheck(j) = why {
-        print!(rt, ", check {j}")?;
-    }
+    print!(rt, "  {what:<42} ")?;
+    note_refused(rt, account, why)?;
     match zeros(out) {
         Some(0) => println!(rt, "; output untouched")?,
         Some(n) => println!(rt, "; {n} bytes zeroed")?,
