@@ -1,4 +1,6 @@
 // AES with a key of 128 bits: the ten rounds of FIPS 197, and a variant of six full rounds.
+#![tactic(auto)]
+
 ghost use Rattle.std.specs.Prelude.{◌≡◌};
 ghost use Rattle.block.specs.Bytes.{of_bytes};
 ghost use Rattle.aes.specs.contracts.ciphers.Aes10Cipher.TheImpl.{ghosts as cipher10};

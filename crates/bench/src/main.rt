@@ -1,4 +1,6 @@
 // Reads lines from standard input, and writes an answer to each.
+#![tactic(auto)]
+
 ghost use Rattle.std.specs.Prelude.{◌≤◌, length, IfOk};
 
 use console::answers;

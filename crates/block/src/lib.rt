@@ -1,4 +1,6 @@
 // A block of 128 bits: xor, doubling and halving in the field, mixing, and its bytes.
+#![tactic(auto)]
+
 ghost use Rattle.std.specs.Prelude.{◌≡◌, ℕ, ◌+◌, ◌-◌, ◌*◌, ◌/◌, ◌%◌, ◌^◌, ◌<◌, ◌≤◌, ◌++◌, length, take, drop, ◌==◌, bit_xor};
 ghost use Rattle.block.specs.Value.{value};
 ghost use Rattle.block.specs.Field.{dbl, half, three, five, seven, mix, unmix, Undone, Unmixed, ByCases, Linear};

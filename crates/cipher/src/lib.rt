@@ -1,4 +1,6 @@
 // A block cipher by its meaning, and the paper cipher.
+#![tactic(auto)]
+
 ghost use Rattle.std.specs.Prelude.{◌≡◌, ◌+◌, ◌%◌, ◌^◌};
 ghost use Rattle.block.specs.Value.{value, value_lt};
 ghost use Rattle.cipher.specs.Meaning.{Meaning, Lawful, base, paper};

@@ -1,4 +1,6 @@
 // The bench: lines of text in, an answer to each out.
+#![tactic(auto)]
+
 ghost use Rattle.std.specs.Prelude.{IfOk};
 ghost use Rattle.console.specs.Lines.{lines_of};
 ghost use Rattle.console.specs.Known.{nothing};

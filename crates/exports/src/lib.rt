@@ -1,4 +1,6 @@
 // What C may call: E and D of a cipher over many blocks, and the whole calls. The cipher is picked by its label.
+#![tactic(auto)]
+
 ghost use Rattle.std.specs.Prelude.{◌≡◌, ℕ, ◌*◌, ◌/◌, Bool, cond, not, ◌++◌, length, drop, ◌==◌};
 ghost use Rattle.block.specs.Value.{value};
 ghost use Rattle.cipher.specs.Meaning.{Meaning};

@@ -1,5 +1,7 @@
 // AES with a key of 128 bits by tables of column products: the plain ciphers' meaning, and many times their speed.
 // Which entries are read depends on secret bytes, so that what a cache shows of them may tell of the key.
+#![tactic(auto)]
+
 ghost use Rattle.std.specs.Prelude.{◌≡◌};
 ghost use Rattle.aes.specs.Fips197.{aes10, aes6};
 ghost use Rattle.block.specs.Bytes.{of_bytes};

@@ -1,4 +1,6 @@
 // The parts of a pay file, one after another: front, heading, each block and check of the stream, tag.
+#![tactic(auto)]
+
 ghost use Rattle.fileparts.specs.Laws.{Walks, Contents, Ends};
 
 pub mod copy;

@@ -1,4 +1,6 @@
 // Pay files that another program made, and files that it refuses: written, opened and read in parts, each answer compared with its.
+#![tactic(auto)]
+
 use anyhow::anyhow;
 use block::Block;
 use cipher::{Cipher, PaperCipher};

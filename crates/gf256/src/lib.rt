@@ -1,4 +1,6 @@
 // GF(2^8), the field of bytes, with the S-box of AES and matrices over it.
+#![tactic(auto)]
+
 ghost use Rattle.std.specs.Prelude.{◌≡◌, ℕ, ◌<◌};
 ghost use Rattle.gf256.specs.Columns.{dotted, product};
 ghost use Rattle.gf256.specs.Field.{gmul, inverse, xtime};

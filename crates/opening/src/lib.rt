@@ -1,4 +1,6 @@
 // Opening: a stream and mark become their message, or a refusal.
+#![tactic(auto)]
+
 ghost use Rattle.std.specs.Prelude.{◌≡◌, ℕ, ◌+◌, ◌*◌, ◌<◌, ◌≤◌, length, IfSome};
 ghost use Rattle.block.specs.Value.{value};
 ghost use Rattle.elmd.specs.Refusals.{mark_number};

@@ -1,4 +1,6 @@
 // A week's wages of a shed: sealed at the office, sent to the terminals, and opened there.
+#![tactic(auto)]
+
 use anyhow::anyhow;
 use block::Block;
 use elmd::settings::Settings;

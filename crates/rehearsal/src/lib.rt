@@ -1,4 +1,6 @@
 // A rehearsal: any list of calls on one newly begun sealer and one newly begun opener, made for real, and what they come to.
+#![tactic(auto)]
+
 ghost use Rattle.std.specs.Prelude.{◌≡◌};
 ghost use Rattle.elmd.specs.Refusals.{mark_number};
 ghost use Rattle.elmd.specs.Heading.{frame_of};

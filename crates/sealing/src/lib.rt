@@ -1,4 +1,6 @@
 // Sealing: a message becomes its stream and mark.
+#![tactic(auto)]
+
 ghost use Rattle.std.specs.Prelude.{◌≡◌, ℕ, ◌<◌, ◌≤◌, ◌++◌, length, drop};
 ghost use Rattle.block.specs.Value.{value};
 ghost use Rattle.cipher.specs.Meaning.{base};

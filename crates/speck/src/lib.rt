@@ -1,4 +1,6 @@
 // The block cipher Speck128/128. Its time depends on neither the key nor the block.
+#![tactic(auto)]
+
 ghost use Rattle.std.specs.Prelude.{◌≡◌, true, slice_index};
 ghost use Rattle.block.specs.Value.{value, value_lt};
 ghost use Rattle.speck.specs.Speck.{round, unround, rounds, unrounds, speck, vector_key, vector_plaintext, vector_ciphertext, Published};

@@ -1,4 +1,5 @@
 // The edges of the format, tried one by one. A trial that fails ends the program with an error.
+#![tactic(auto)]
 
 mod common;
 mod damage;

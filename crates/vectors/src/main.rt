@@ -1,4 +1,6 @@
 // Runs the answers of another program: each NAME.in, whose answers must be NAME.out byte for byte.
+#![tactic(auto)]
+
 ghost use Rattle.std.specs.Prelude.{◌≡◌, MatchOption, ◌≢◌};
 
 use console::answers;

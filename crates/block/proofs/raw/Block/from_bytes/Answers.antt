@@ -5,4 +5,4 @@ use Rattle.block.proofs.raw.Block.from_bytes.Goals as goal
 
 pub returns : goal.returns
 unfolding value
-returns c = omega (arith, c.new.ensures, c.from-be-bytes.ensures, c.from-be-bytes-2.ensures, of_bytes_listed c.args.b.now (search rules))
+returns c = omega (arith, c.new.ensures, c.from_be_bytes.ensures, c.from_be_bytes-2.ensures, of_bytes_listed c.args.b.now (search rules))
