@@ -40,7 +40,7 @@ OTHERWISE = {
     "tag_fits": "tag_fits_lem",
 }
 COMMENT = re.compile(r"(?<![^\s(){}.;,@\"«»])--[^\n]*")
-LEFT = {"S", "λ", "let", "in", "use", "|"}
+LEFT = {"S", "λ", "let", "in", "use", "|", "cond-false", "drop-set-lt"}  # the last two are the library's too
 MADE = re.compile(r"^(goal|need|rules)\.")
 
 

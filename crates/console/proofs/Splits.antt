@@ -1,14 +1,14 @@
 -- The first line of a text, and the lines behind it.
 use Rattle.std.proofs.Common.{◌≡◌, ℕ, zero, suc, ◌+◌, ◌-◌, ◌<◌, ◌≤◌, cond, eqb, ◌⊎◌, List, [], ◌∷◌, length, get_or, take, drop, sym, refl, ap, ◌∙◌, inl, inr, arith}
 use Rattle.std.proofs.lemmas.List.{length-drop, get_or-drop, drop-drop}
-use Rattle.std.proofs.lemmas.Bool.{eq-eqb, ne_eqb, cond-true, cond_false}
+use Rattle.std.proofs.lemmas.Bool.{eq-eqb, ne_eqb, cond-true, cond-false}
 use Rattle.console.specs.Lines.{lines_of, grown}
 
 pub lines_newline : (x : ℕ) (rest : List ℕ) → x ≡ 10 → lines_of (x ∷ rest) ≡ [] ∷ lines_of rest
 lines_newline x rest e = cond-true (eqb x 10) ([] ∷ lines_of rest) (grown x (lines_of rest)) (eq-eqb x 10 e)
 
 pub lines_other : (x : ℕ) (rest : List ℕ) → (x ≡ 10 → ⊥) → lines_of (x ∷ rest) ≡ grown x (lines_of rest)
-lines_other x rest e = cond_false (eqb x 10) ([] ∷ lines_of rest) (grown x (lines_of rest)) (ne_eqb x 10 e)
+lines_other x rest e = cond-false (eqb x 10) ([] ∷ lines_of rest) (grown x (lines_of rest)) (ne_eqb x 10 e)
 
 pub first_line : (xs : List ℕ) (n : ℕ) → 0 < length xs → n ≤ length xs
     → ((k : ℕ) → k < n → get_or xs k 0 ≡ 10 → ⊥) → (n < length xs → get_or xs n 0 ≡ 10)

@@ -1,10 +1,10 @@
 -- The eight bytes of accepted settings, one by one.
 use Rattle.std.proofs.Common.{◌≡◌, ℕ, ◌≤◌, cond, eqb, List, [], ◌∷◌, ◌++◌, length, get_or, sym, ap, ◌∙◌, ⊎_elim, arith}
-use Rattle.std.proofs.lemmas.Bool.{cases_eq, cond-true, cond_false, eq-eqb, ne_eqb}
+use Rattle.std.proofs.lemmas.Bool.{cases_eq, cond-true, cond-false, eq-eqb, ne_eqb}
 use Rattle.block.proofs.Bytes.{listed_is}
 
 flag_back : (f : ℕ) → f ≤ 1 → cond (eqb f 1) 1 0 ≡ f
-flag_back f h = ⊎_elim (λ e. cond-true (eqb f 1) 1 0 (eq-eqb f 1 e) ∙ sym e) (λ n. cond_false (eqb f 1) 1 0 (ne_eqb f 1 n) ∙ omega arith) (cases_eq f 1)
+flag_back f h = ⊎_elim (λ e. cond-true (eqb f 1) 1 0 (eq-eqb f 1 e) ∙ sym e) (λ n. cond-false (eqb f 1) 1 0 (ne_eqb f 1 n) ∙ omega arith) (cases_eq f 1)
 
 pub settings_same : (b : List ℕ) (label : ℕ) → length b ≡ 8 → get_or b 0 0 ≡ label → get_or b 1 0 ≡ 0 → get_or b 3 0 ≤ 1 → get_or b 4 0 ≡ 128 → get_or b 5 0 ≡ 0 → get_or b 6 0 ≡ 0 → get_or b 7 0 ≡ 0
     → label ∷ 0 ∷ get_or b 2 0 ∷ cond (eqb (get_or b 3 0) 1) 1 0 ∷ 128 ∷ 0 ∷ 0 ∷ 0 ∷ [] ≡ b

@@ -4,7 +4,7 @@ use lib.Bits.{bit_xor}
 use lib.ListN.{length-replicate}
 use Rattle.std.proofs.ByRecursion.{All-take, All-append}
 use Rattle.std.proofs.lemmas.List.{append-nil, take_all, take_at, drop_at}
-use Rattle.std.proofs.lemmas.Bool.{cases_lt, cases_eq, cond-true, cond_false, eq-eqb, ne_eqb}
+use Rattle.std.proofs.lemmas.Bool.{cases_lt, cases_eq, cond-true, cond-false, eq-eqb, ne_eqb}
 use Rattle.block.specs.Field.{three}
 use Rattle.block.specs.Bytes.{bytes_of, of_bytes, padded, Bytes}
 use Rattle.block.proofs.Laws.{xor_cancel}
@@ -210,7 +210,7 @@ module _ (u : Frame) (sound : Sound u) (s : List ℕ) (bytes : Bytes s) (k p r :
 
 pub mark_cases : (m : List ℕ) → (mark m ≡ 0) ⊎ (mark m ≡ 1)
 unfolding mark
-mark_cases m = ⊎_elim (λ e. inr (cond-true (eqb (length m % 16) 0) 1 0 (eq-eqb (length m % 16) 0 e))) (λ n. inl (cond_false (eqb (length m % 16) 0) 1 0 (ne_eqb (length m % 16) 0 n))) (cases_eq (length m % 16) 0)
+mark_cases m = ⊎_elim (λ e. inr (cond-true (eqb (length m % 16) 0) 1 0 (eq-eqb (length m % 16) 0 e))) (λ n. inl (cond-false (eqb (length m % 16) 0) 1 0 (ne_eqb (length m % 16) 0 n))) (cases_eq (length m % 16) 0)
 
 -- what a right stream of suc p blocks gives back
 found_message : (u : Frame) (sound : Sound u) (S k : ℕ) (m : List ℕ) (hm : MessageOf u S k m) (s : List ℕ) (bytes : Bytes s) (size : length s ≡ S) (r p : ℕ) → suc p ≡ blocks m → Right u s k (suc p) r

@@ -2,7 +2,7 @@
 use Rattle.std.proofs.Common.{◌≡◌, ℕ, zero, suc, pred, ◌+◌, ◌-◌, ◌*◌, ◌/◌, ◌%◌, ◌<◌, ◌≤◌, ltb, List, [], ◌∷◌, ◌++◌, length, take, drop, set, sym, refl, ap, ◌∙◌, subst, append_assoc, arith, length-append, length-set}
 use lib.Bits.{bit_xor, xor_zero_r}
 use Rattle.std.proofs.lemmas.List.{append-nil, take-append-le, take_more_set, take_all, drop-append-le, drop_all}
-use Rattle.std.proofs.lemmas.Bool.{cond-true, cond_false, lt-ltb, le-ltb}
+use Rattle.std.proofs.lemmas.Bool.{cond-true, cond-false, lt-ltb, le-ltb}
 use Rattle.block.specs.Field.{dbl, three, seven}
 use Rattle.block.specs.Bytes.{of_bytes, padded}
 use Rattle.block.proofs.Filling.{padded_whole}
@@ -67,7 +67,7 @@ more_none u h o = subst (λ (z : List ℕ). Opens (frame_of u.cipher u.settings 
 
 -- what was chained is V of the whole blocks
 whole_mask : (u : Frame) (i : ℕ) → 16 * i ≤ length u.heading → head_mask u i ≡ three (pow i (base u.cipher))
-whole_mask u i h = let l : ℕ = base u.cipher in cond_false (ltb (length u.heading) (16 * i)) (three (seven (pow (pred i) l))) (three (pow i l)) (le-ltb (length u.heading) (16 * i) h)
+whole_mask u i h = let l : ℕ = base u.cipher in cond-false (ltb (length u.heading) (16 * i)) (three (seven (pow (pred i) l))) (three (pow i l)) (le-ltb (length u.heading) (16 * i) h)
 
 pub inner_chain : (u : Frame) (i : ℕ) → 16 * i ≤ length u.heading → chain_head u (suc i) ≡ inner_head u (suc i)
 inner_chain u zero h = let m = whole_mask u 0 h in cc

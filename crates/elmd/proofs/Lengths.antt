@@ -1,7 +1,7 @@
 -- How long the parts of a stream are.
 use Rattle.std.proofs.Common.{◌≡◌, ℕ, zero, suc, pred, ◌+◌, ◌*◌, ◌/◌, ◌%◌, ◌≤◌, eqb, ◌⊎◌, List, [], ◌++◌, length, get_or, ap, ◌∙◌, inl, inr, ⊎_elim, arith, length-append, length-take}
 use native.Mathlib.Nat.{zero-div, div-zero}
-use Rattle.std.proofs.lemmas.Bool.{cond_both, cond-true, cond_false, eqb-true, eqb-false, eq-eqb, ne_eqb, cases_lt, cases_eq}
+use Rattle.std.proofs.lemmas.Bool.{cond_both, cond-true, cond-false, eqb-true, eqb-false, eq-eqb, ne_eqb, cases_lt, cases_eq}
 use Rattle.block.specs.Bytes.{bytes_of}
 use Rattle.block.proofs.Bytes.{length_bytes_of}
 use Rattle.elmd.specs.Stream.{Frame, t_of, f_of, blocks, tag_spot, cipher_block, check_block, places, tag_size, last_size, x_at, stream}
@@ -30,7 +30,7 @@ size_short u r e = cond-true (eqb (f_of u) 1) r 16 (eq-eqb (f_of u) 1 e)
 
 pub size_whole : (u : Frame) (r : ℕ) → f_of u ≡ 0 → tag_size u r ≡ 16
 unfolding tag_size
-size_whole u r e = cond_false (eqb (f_of u) 1) r 16 (ne_eqb (f_of u) 1 (omega arith))
+size_whole u r e = cond-false (eqb (f_of u) 1) r 16 (ne_eqb (f_of u) 1 (omega arith))
 
 pub size_range : (u : Frame) (r : ℕ) → 1 ≤ r → r ≤ 16 → (1 ≤ tag_size u r) × (tag_size u r ≤ 16)
 size_range u r a b = ⊎_elim (λ e. let z = size_whole u r e in (omega arith, omega arith)) (λ e. let z = size_short u r e in (omega arith, omega arith)) (f_cases u)
@@ -69,7 +69,7 @@ blocks_back u l c p q r =
     let g : pred (l + h) ≡ pred l + h = omega arith in
     rw (e, g) (⊎_elim
     (λ z. let w : pred l / t ≡ 0 = ap (λ (n : ℕ). pred l / n) z ∙ div-zero (pred l) in rw (cond-true (eqb t 0) 0 ((pred l + h) / suc t) (eq-eqb t 0 z)) (omega arith))
-    (λ n. rw (cond_false (eqb t 0) 0 ((pred l + h) / suc t) (ne_eqb t 0 n), quo_more (pred l) t (omega arith)) (omega arith))
+    (λ n. rw (cond-false (eqb t 0) 0 ((pred l + h) / suc t) (ne_eqb t 0 n), quo_more (pred l) t (omega arith)) (omega arith))
     (cases_eq t 0))
 
 pub lengths : StreamLength

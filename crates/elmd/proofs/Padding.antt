@@ -1,6 +1,6 @@
 -- A message and its blocks.
 use Rattle.std.proofs.Common.{◌≡◌, ℕ, zero, suc, pred, ◌+◌, ◌-◌, ◌*◌, ◌%◌, ◌<◌, ◌≤◌, eqb, List, ◌∷◌, ◌++◌, length, get_or, take, replicate, sym, refl, ap, ◌∙◌, ⊎_elim, arith, length-drop, length-take, take-add}
-use Rattle.std.proofs.lemmas.Bool.{cond-true, cond_false, eq-eqb, ne_eqb, cases_eq, cases_lt, cases_order}
+use Rattle.std.proofs.lemmas.Bool.{cond-true, cond-false, eq-eqb, ne_eqb, cases_eq, cases_lt, cases_order}
 use Rattle.std.proofs.lemmas.List.{get_or-append_right, get_or-take, take_at, take_all}
 use Rattle.block.specs.Bytes.{bytes_of, padded, Bytes}
 use Rattle.block.proofs.Bytes.{number_back}
@@ -63,7 +63,7 @@ last_part m h = simp (length-take, length-drop) (omega arith)
 
 pub mark_whole : (m : List ℕ) → 1 ≤ length m → mark m ≡ 1 → last_size m ≡ 16
 unfolding mark
-mark_whole m h e = ⊎_elim (λ z. omega arith) (λ z. let c : mark m ≡ 0 = cond_false (eqb (length m % 16) 0) 1 0 (ne_eqb (length m % 16) 0 z) in let d : ◌≡◌ {A = ℕ} 0 1 = sym c ∙ e in omega arith) (cases_eq (length m % 16) 0)
+mark_whole m h e = ⊎_elim (λ z. omega arith) (λ z. let c : mark m ≡ 0 = cond-false (eqb (length m % 16) 0) 1 0 (ne_eqb (length m % 16) 0 z) in let d : ◌≡◌ {A = ℕ} 0 1 = sym c ∙ e in omega arith) (cases_eq (length m % 16) 0)
 
 pub whole_mark : (m : List ℕ) → 1 ≤ length m → last_size m ≡ 16 → mark m ≡ 1
 unfolding mark
@@ -71,4 +71,4 @@ whole_mark m h e = cond-true (eqb (length m % 16) 0) 1 0 (eq-eqb (length m % 16)
 
 pub short_mark : (m : List ℕ) → 1 ≤ length m → last_size m < 16 → mark m ≡ 0
 unfolding mark
-short_mark m h e = cond_false (eqb (length m % 16) 0) 1 0 (ne_eqb (length m % 16) 0 (omega arith))
+short_mark m h e = cond-false (eqb (length m % 16) 0) 1 0 (ne_eqb (length m % 16) 0 (omega arith))

@@ -2,7 +2,7 @@
 use Rattle.std.proofs.Common.{◌≡◌, ℕ, zero, suc, pred, ◌+◌, ◌-◌, ◌*◌, ◌/◌, ◌%◌, ◌^◌, ◌<◌, ◌≤◌, Bool, true, false, cond, not, eqb, ◌⊎◌, List, Some, None, Option, sym, refl, ap, ◌∙◌, subst, inl, inr, ⊎_elim, div-add-mod', mul-suc, arith}
 use native.Mathlib.Nat.{div-zero}
 use Rattle.std.proofs.lemmas.Nat.{div-mul-add, mod_below, mod-mul-add}
-use Rattle.std.proofs.lemmas.Bool.{cases_eq, cond-true, cond_false, eq-eqb, ne_eqb, eqb-true, eqb-false, true≢false}
+use Rattle.std.proofs.lemmas.Bool.{cases_eq, cond-true, cond-false, eq-eqb, ne_eqb, eqb-true, eqb-false, true≢false}
 use Rattle.elmd.specs.declared.settings.Settings.{Settings}
 use Rattle.elmd.specs.declared.shape.Shape.{Shape}
 use Rattle.elmd.specs.declared.refusal.Mark.{Mark}
@@ -27,10 +27,10 @@ among_zero : (F t h : ℕ) → t ≡ 0 → checks_among F t ≡ Some h → h ≡
 among_zero F t h z e = let a : checks_among F t ≡ Some 0 = cond-true (eqb t 0) (Some 0) (cond (eqb (F % (t + 1)) 0) None (Some ((F - 1) / (t + 1)))) (eq-eqb t 0 z) in cc
 
 among_last : (F t : ℕ) → (t ≡ 0 → ⊥) → F % (t + 1) ≡ 0 → checks_among F t ≡ None
-among_last F t n e = cond_false (eqb t 0) (Some 0) (cond (eqb (F % (t + 1)) 0) None (Some ((F - 1) / (t + 1)))) (ne_eqb t 0 n) ∙ cond-true (eqb (F % (t + 1)) 0) None (Some ((F - 1) / (t + 1))) (eq-eqb (F % (t + 1)) 0 e)
+among_last F t n e = cond-false (eqb t 0) (Some 0) (cond (eqb (F % (t + 1)) 0) None (Some ((F - 1) / (t + 1)))) (ne_eqb t 0 n) ∙ cond-true (eqb (F % (t + 1)) 0) None (Some ((F - 1) / (t + 1))) (eq-eqb (F % (t + 1)) 0 e)
 
 among_more : (F t : ℕ) → (t ≡ 0 → ⊥) → (F % (t + 1) ≡ 0 → ⊥) → checks_among F t ≡ Some ((F - 1) / (t + 1))
-among_more F t n e = cond_false (eqb t 0) (Some 0) (cond (eqb (F % (t + 1)) 0) None (Some ((F - 1) / (t + 1)))) (ne_eqb t 0 n) ∙ cond_false (eqb (F % (t + 1)) 0) None (Some ((F - 1) / (t + 1))) (ne_eqb (F % (t + 1)) 0 e)
+among_more F t n e = cond-false (eqb t 0) (Some 0) (cond (eqb (F % (t + 1)) 0) None (Some ((F - 1) / (t + 1)))) (ne_eqb t 0 n) ∙ cond-false (eqb (F % (t + 1)) 0) None (Some ((F - 1) / (t + 1))) (ne_eqb (F % (t + 1)) 0 e)
 
 -- F places with h checks among them are l blocks and their checks
 pub among_some : (F t h : ℕ) → 1 ≤ F → checks_among F t ≡ Some h → (h < F) × (pred (F - h) / t ≡ h) × (h ≡ cond (eqb t 0) 0 (pred F / suc t))
@@ -59,7 +59,7 @@ among_some F t h p e =
     let none : F % suc t ≡ 0 = ap (λ (y : ℕ). y % suc t) whole ∙ mod-mul-add (suc h) (suc t) 0 (omega arith) in
     absurd (l (ap (λ (y : ℕ). F % y) d ∙ none))) (Rattle.std.proofs.lemmas.Bool.cases_lt r t) in
     let pl : pred (F - h) ≡ h * t + r = omega arith in
-    (omega arith, ap (λ (x : ℕ). x / t) pl ∙ div-mul-add h t r less, hs ∙ sym (cond_false (eqb t 0) 0 (pred F / suc t) (ne_eqb t 0 n))))
+    (omega arith, ap (λ (x : ℕ). x / t) pl ∙ div-mul-add h t r less, hs ∙ sym (cond-false (eqb t 0) 0 (pred F / suc t) (ne_eqb t 0 n))))
     (cases_eq (F % (t + 1)) 0))
     (cases_eq t 0)
 
@@ -99,7 +99,7 @@ module _ (u : Frame) (s : Settings) (k tag : ℕ) (es : settings_bytes s ≡ u.s
   -- a last block that goes with the mark and the tag's length
   tag_chosen : (k ≡ 0) ⊎ (k ≡ 1) → 1 ≤ tag → tag ≤ 16 → tag_fits s.short_tag k tag ≡ true → (r : ℕ) × Goes u k tag r
   tag_chosen (inl z) p q f =
-      let a = cond_false (eqb k 1) (eqb tag 16) (cond s.short_tag (not (eqb tag 16)) (eqb tag 16)) (ne_eqb k 1 (λ o. omega arith)) in
+      let a = cond-false (eqb k 1) (eqb tag 16) (cond s.short_tag (not (eqb tag 16)) (eqb tag 16)) (ne_eqb k 1 (λ o. omega arith)) in
       by_flag p q s.short_tag refl (sym a ∙ f) z
   tag_chosen (inr o) p q f =
       let a = cond-true (eqb k 1) (eqb tag 16) (cond s.short_tag (not (eqb tag 16)) (eqb tag 16)) (eq-eqb k 1 o) in
@@ -116,7 +116,7 @@ module _ (u : Frame) (s : Settings) (k tag : ℕ) (es : settings_bytes s ≡ u.s
       let t : tag ≡ 16 = sym g ∙ ap (tag_size u) w ∙ tag_size_is u s 16 es ∙ same_both s.short_tag in
       cond-true (eqb k 1) (eqb tag 16) (cond s.short_tag (not (eqb tag 16)) (eqb tag 16)) (eq-eqb k 1 o) ∙ eq-eqb tag 16 t
   tag_fits_lem r (p, inr (z, w), g) =
-      cond_false (eqb k 1) (eqb tag 16) (cond s.short_tag (not (eqb tag 16)) (eqb tag 16)) (ne_eqb k 1 (λ o. omega arith)) ∙ flag_fits r s.short_tag refl w g
+      cond-false (eqb k 1) (eqb tag 16) (cond s.short_tag (not (eqb tag 16)) (eqb tag 16)) (ne_eqb k 1 (λ o. omega arith)) ∙ flag_fits r s.short_tag refl w g
 
 -- the layout that was found
 pub shape_found : (u : Frame) (s : Settings) (S k h : ℕ) (sh : Shape) → settings_bytes s ≡ u.settings → 17 ≤ S → (k ≡ 0) ⊎ (k ≡ 1) → checks_among ((S - 1) / 16) s.interval ≡ Some h

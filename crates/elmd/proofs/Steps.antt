@@ -3,7 +3,7 @@ use Rattle.std.proofs.Common.{◌≡◌, ℕ, zero, suc, pred, ◌+◌, ◌-◌,
 use lib.Bits.{bit_xor}
 use Rattle.std.proofs.lemmas.List.{take-append-le, append-nil}
 use Rattle.std.proofs.lemmas.Nat.{div-mul-add}
-use Rattle.std.proofs.lemmas.Bool.{cond-true, cond_false, eq-eqb, ne_eqb}
+use Rattle.std.proofs.lemmas.Bool.{cond-true, cond-false, eq-eqb, ne_eqb}
 use Rattle.block.specs.Field.{dbl, three}
 use Rattle.block.specs.Bytes.{bytes_of, padded}
 use Rattle.elmd.specs.Stream.{Frame, t_of, pow, block_at, blocks, spot, tag_spot, in_mask, out_mask, sum_to, w_at, y_at, cipher_block, check_block, tag_block, place, places, tag_size, last_size, tag_bytes, mark, x_at, stream}
@@ -29,7 +29,7 @@ bare_place : (u : Frame) (x : ℕ → ℕ) (i : ℕ) → (suc i / t_of u * t_of 
 bare_place u x i n =
     let t : ℕ = t_of u in
     let c : List ℕ = bytes_of (cipher_block u x (suc i)) in
-    ap (λ (z : List ℕ). c ++ z) (cond_false (eqb (suc i / t * t) (suc i)) (bytes_of (check_block u x (suc i / t))) [] (ne_eqb (suc i / t * t) (suc i) n)) ∙ append-nil c
+    ap (λ (z : List ℕ). c ++ z) (cond-false (eqb (suc i / t * t) (suc i)) (bytes_of (check_block u x (suc i / t))) [] (ne_eqb (suc i / t * t) (suc i) n)) ∙ append-nil c
 
 pub placing : Placing
 placing u x q c i e = record {

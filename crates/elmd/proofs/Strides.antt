@@ -1,7 +1,7 @@
 -- The place in a stream and the count since the last check, block by block.
 use Rattle.std.proofs.Common.{◌≡◌, ℕ, suc, ◌+◌, ◌*◌, ◌/◌, ◌^◌, ◌<◌, ◌≤◌, cond, eqb, sym, ap, ◌∙◌, ⊎_elim, suc-mul, div-add-mod', arith}
 use Rattle.std.proofs.lemmas.Nat.{div-mul-add, mod_below}
-use Rattle.std.proofs.lemmas.Bool.{cases_eq, cond-true, cond_false, eq-eqb, ne_eqb}
+use Rattle.std.proofs.lemmas.Bool.{cases_eq, cond-true, cond-false, eq-eqb, ne_eqb}
 use Rattle.block.specs.Field.{dbl, five}
 use Rattle.block.proofs.Laws.{five_dbl}
 use Rattle.elmd.specs.Stream.{pow}
@@ -29,7 +29,7 @@ pub stride_is : (i t since : ℕ) → i ≡ i / t * t + since → 16 * (i + i / 
 stride_is i t since c =
     ⊎_elim
     (λ d. let q = quo_due i t since c d in let s : stride t since ≡ 32 = cond-true (eqb (since + 1) t) 32 16 (eq-eqb (since + 1) t d) in omega arith)
-    (λ n. let q = quo_not i t since c n in let s : stride t since ≡ 16 = cond_false (eqb (since + 1) t) 32 16 (ne_eqb (since + 1) t n) in omega arith)
+    (λ n. let q = quo_not i t since c n in let s : stride t since ≡ 16 = cond-false (eqb (since + 1) t) 32 16 (ne_eqb (since + 1) t n) in omega arith)
     (cases_eq (since + 1) t)
 
 pub since_is : (i t since : ℕ) → i ≡ i / t * t + since → suc i ≡ suc i / t * t + cond (eqb (since + 1) t) 0 (since + 1)
@@ -42,7 +42,7 @@ since_is i t since c =
     omega arith)
     (λ n.
     let q : suc i / t * t ≡ i / t * t = ap (λ (z : ℕ). z * t) (quo_not i t since c n) in
-    let s : cond (eqb (since + 1) t) 0 (since + 1) ≡ since + 1 = cond_false (eqb (since + 1) t) 0 (since + 1) (ne_eqb (since + 1) t n) in
+    let s : cond (eqb (since + 1) t) 0 (since + 1) ≡ since + 1 = cond-false (eqb (since + 1) t) 0 (since + 1) (ne_eqb (since + 1) t n) in
     omega arith)
     (cases_eq (since + 1) t)
 
@@ -58,5 +58,5 @@ pub quo_next : (i t since : ℕ) → i ≡ i / t * t + since → suc i / t ≡ i
 quo_next i t since c =
     ⊎_elim
     (λ d. let q = quo_due i t since c d in let s : ◌≡◌ {A = ℕ} (cond (eqb (since + 1) t) 1 0) 1 = cond-true (eqb (since + 1) t) 1 0 (eq-eqb (since + 1) t d) in omega arith)
-    (λ n. let q = quo_not i t since c n in let s : ◌≡◌ {A = ℕ} (cond (eqb (since + 1) t) 1 0) 0 = cond_false (eqb (since + 1) t) 1 0 (ne_eqb (since + 1) t n) in omega arith)
+    (λ n. let q = quo_not i t since c n in let s : ◌≡◌ {A = ℕ} (cond (eqb (since + 1) t) 1 0) 0 = cond-false (eqb (since + 1) t) 1 0 (ne_eqb (since + 1) t n) in omega arith)
     (cases_eq (since + 1) t)

@@ -2,7 +2,7 @@
 use Rattle.std.proofs.Common.{◌≡◌, ℕ, ◌+◌, ◌-◌, ◌*◌, ◌<◌, ◌≤◌, min, Bool, true, false, cond, ltb, leb, List, [], ◌++◌, length, take, drop, Some, None, Ok, Err, Option, Result, sym, refl, ap, ◌∙◌, subst, ⊎_elim, arith}
 use native.Mathlib.Nat.{sub-zero}
 use Rattle.std.proofs.lemmas.List.{length-take-le}
-use Rattle.std.proofs.lemmas.Bool.{cases_lt, cond-true, cond_false, lt-ltb, le-ltb, leb-true, true≢false}
+use Rattle.std.proofs.lemmas.Bool.{cases_lt, cond-true, cond-false, lt-ltb, le-ltb, leb-true, true≢false}
 use Rattle.opening.proofs.Standings.{taken_next}
 use Rattle.elmd.specs.declared.refusal.Refusal.{Refusal}
 use Rattle.elmd.specs.declared.refusal.Refusal.TheVariants as why
@@ -50,7 +50,7 @@ open_at ph.Filling o room e =
     ⊎_elim
     (λ lt. absurd (no_refusal _ why.StreamMissing e (cond-true (ltb o.taken o.size) (Some why.StreamMissing) rest (lt-ltb o.taken o.size lt))))
     (λ le. ⊎_elim
-    (λ lt. absurd (no_refusal _ why.RoomShort e (cond_false (ltb o.taken o.size) (Some why.StreamMissing) rest (le-ltb o.taken o.size le) ∙ cond-true (ltb room (last_room o)) (Some why.RoomShort) None (lt-ltb room (last_room o) lt))))
+    (λ lt. absurd (no_refusal _ why.RoomShort e (cond-false (ltb o.taken o.size) (Some why.StreamMissing) rest (le-ltb o.taken o.size le) ∙ cond-true (ltb room (last_room o)) (Some why.RoomShort) None (lt-ltb room (last_room o) lt))))
     (λ fits. (le, fits))
     (cases_lt room (last_room o)))
     (cases_lt o.taken o.size)
@@ -61,7 +61,7 @@ finish_open o room e = open_at o.phase o room e
 -- a put that completes a check takes its last byte
 pub completes_below : (o : Opener) (n : ℕ) → completes o n ≡ true → o.state.checks < o.shape.checks
 completes_below o n t =
-    ⊎_elim (λ lt. lt) (λ le. absurd (true≢false (sym t ∙ cond_false (ltb o.state.checks o.shape.checks) (leb (next_end o - o.taken) n) false (le-ltb o.state.checks o.shape.checks le)))) (cases_lt o.state.checks o.shape.checks)
+    ⊎_elim (λ lt. lt) (λ le. absurd (true≢false (sym t ∙ cond-false (ltb o.state.checks o.shape.checks) (leb (next_end o - o.taken) n) false (le-ltb o.state.checks o.shape.checks le)))) (cases_lt o.state.checks o.shape.checks)
 
 pub completes_all : (o : Opener) (x : List ℕ) → completes o (length x) ≡ true → o.taken + length (take (took o (length x)) x) ≡ next_end o
 completes_all o x t =

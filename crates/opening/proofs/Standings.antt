@@ -3,7 +3,7 @@ use Rattle.std.proofs.Common.{◌≡◌, ℕ, suc, pred, ◌+◌, ◌-◌, ◌*�
 use native.Mathlib.Nat.{lt-div-mul-add}
 use Rattle.std.proofs.lemmas.Nat.{mul-le}
 use Rattle.std.proofs.lemmas.List.{take_at, drop_at, length-take-le}
-use Rattle.std.proofs.lemmas.Bool.{cases_lt, cond-true, cond_false, lt-ltb, le-ltb}
+use Rattle.std.proofs.lemmas.Bool.{cases_lt, cond-true, cond-false, lt-ltb, le-ltb}
 use Rattle.elmd.specs.declared.settings.Settings.{Settings}
 use Rattle.elmd.specs.Settings.{settings_bytes}
 use Rattle.elmd.specs.Stream.{Frame}
@@ -50,7 +50,7 @@ module _ (o : Opener) where
   end_next lt = cond-true (ltb j h) (16 * (j * (t + 1)) + 16 * (t + 1)) o.size (lt-ltb j h lt)
 
   pub end_last : h ≤ j → next_end o ≡ o.size
-  end_last le = cond_false (ltb j h) (16 * (j * (t + 1)) + 16 * (t + 1)) o.size (le-ltb j h le)
+  end_last le = cond-false (ltb j h) (16 * (j * (t + 1)) + 16 * (t + 1)) o.size (le-ltb j h le)
 
   pub end_high : next_end o ≤ 16 * (j * (t + 1)) + 16 * (t + 1)
   end_high =

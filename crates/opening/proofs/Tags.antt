@@ -2,7 +2,7 @@
 use Rattle.std.proofs.Common.{◌≡◌, ℕ, ◌+◌, ◌<◌, ◌≤◌, Bool, cond, eqb, List, [], ◌∷◌, ◌++◌, length, get_or, take, drop, Some, None, Option, sym, refl, ap, ◌∙◌, subst, ⊎_elim, arith, MatchOption}
 use lib.Bits.{bit_or, bit_xor, xor_self}
 use Rattle.std.proofs.lemmas.List.{take_more, take_more_same, same_from_push}
-use Rattle.std.proofs.lemmas.Bool.{cases_eq, cond-true, cond_false, eq-eqb, ne_eqb}
+use Rattle.std.proofs.lemmas.Bool.{cases_eq, cond-true, cond-false, eq-eqb, ne_eqb}
 use Rattle.block.specs.Bytes.{padded}
 use Rattle.block.proofs.Laws.{xor_none}
 use Rattle.block.proofs.Halves.{or_none}
@@ -30,7 +30,7 @@ judged v mark short tag k r e some whole few filled only =
     subst P (sym e)
     (⊎_elim
     (λ g. subst P (sym (cond-true (eqb (cond short k 16) tag) (Some k) None (eq-eqb (cond short k 16) tag g))) (record { some = some; whole = whole; few = few; filled = filled; tagged = g }))
-    (λ n. subst P (sym (cond_false (eqb (cond short k 16) tag) (Some k) None (ne_eqb (cond short k 16) tag n))) (λ j b. n (ap (λ (x : ℕ). cond short x 16) (sym (only j b)) ∙ b.tagged)))
+    (λ n. subst P (sym (cond-false (eqb (cond short k 16) tag) (Some k) None (ne_eqb (cond short k 16) tag n))) (λ j b. n (ap (λ (x : ℕ). cond short x 16) (sym (only j b)) ∙ b.tagged)))
     (cases_eq (cond short k 16) tag))
 
 pub ending_le : {v : List ℕ} {short : Bool} {tag q : ℕ} (k : Mark) → Ending v (mark_number k) short tag q → q ≤ 16

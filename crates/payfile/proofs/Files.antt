@@ -1,6 +1,6 @@
 -- Answers and lengths of a pay file.
 use Rattle.std.proofs.Common.{◌≡◌, ℕ, pred, ◌+◌, ◌*◌, ◌/◌, ◌^◌, ◌<◌, ◌≤◌, Bool, true, false, cond, ◌||◌, eqb, ltb, List, [], ◌∷◌, ◌++◌, length, Ok, Err, Result, sym, refl, ap, ◌∙◌, ⊎_elim, div-le_self, arith, length-append}
-use Rattle.std.proofs.lemmas.Bool.{cond-true, cond_false, le-ltb, lt-ltb}
+use Rattle.std.proofs.lemmas.Bool.{cond-true, cond-false, le-ltb, lt-ltb}
 use Rattle.block.specs.Bytes.{bytes_by}
 use Rattle.block.proofs.Bytes.{length_bytes_by}
 use Rattle.elmd.specs.declared.refusal.Refusal.{Refusal}

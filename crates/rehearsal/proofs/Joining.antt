@@ -1,6 +1,6 @@
 -- Pieces joined one after another.
 use Rattle.std.proofs.Common.{◌≡◌, ℕ, zero, suc, ◌+◌, ◌<◌, ◌≤◌, ltb, List, [], ◌∷◌, ◌++◌, length, get_or, take, drop, Ok, Err, sym, refl, ap, ◌∙◌, ⊎_elim, append_assoc, arith, length-append, take-append-drop, Bor}
-use Rattle.std.proofs.lemmas.Bool.{cond-true, cond_false, lt-ltb, le-ltb, cases_lt}
+use Rattle.std.proofs.lemmas.Bool.{cond-true, cond-false, lt-ltb, le-ltb, cases_lt}
 use Rattle.elmd.specs.declared.refusal.Refusal.{Refusal}
 use Rattle.elmd.specs.declared.refusal.Refusal.TheVariants.{HeadingLength}
 use Rattle.elmd.specs.Heading.{add_answer}
@@ -27,9 +27,9 @@ pub add_refused : (len size len' size' : ℕ) (why : Refusal) → Err why ≡ ad
 add_refused len size len' size' why e h =
     ⊎_elim
     (λ l. e ∙ cond-true (ltb 65536 (len + size)) (Err HeadingLength) (Ok tt) (lt-ltb 65536 (len + size) l) ∙ sym (cond-true (ltb 65536 (len' + size')) (Err HeadingLength) (Ok tt) (lt-ltb 65536 (len' + size') (omega arith))))
-    (λ l. let a : add_answer len size ≡ Ok tt = cond_false (ltb 65536 (len + size)) (Err HeadingLength) (Ok tt) (le-ltb 65536 (len + size) l) in let z : ◌≡◌ {A = ℕ} 0 1 = cc in absurd (omega arith))
+    (λ l. let a : add_answer len size ≡ Ok tt = cond-false (ltb 65536 (len + size)) (Err HeadingLength) (Ok tt) (le-ltb 65536 (len + size) l) in let z : ◌≡◌ {A = ℕ} 0 1 = cc in absurd (omega arith))
     (cases_lt 65536 (len + size))
 
 -- and an open heading is never longer
 pub add_fits : (len size : ℕ) → len + size ≤ 65536 → Ok tt ≡ add_answer len size
-add_fits len size h = sym (cond_false (ltb 65536 (len + size)) (Err HeadingLength) (Ok tt) (le-ltb 65536 (len + size) h))
+add_fits len size h = sym (cond-false (ltb 65536 (len + size)) (Err HeadingLength) (Ok tt) (le-ltb 65536 (len + size) h))

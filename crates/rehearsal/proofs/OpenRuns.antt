@@ -1,7 +1,7 @@
 -- A list of calls on an opener.
 use Rattle.std.proofs.Common.{◌≡◌, ℕ, ◌+◌, ◌-◌, ◌<◌, ◌≤◌, min, List, [], ◌∷◌, ◌++◌, length, get_or, take, drop, set, sym, refl, ap, ◌∙◌, subst, arith}
 use borrow.Rule.Slice.PartMut.{put_mid}
-use Rattle.std.proofs.lemmas.List.{length-take, length-drop, length-take-le, take_more, take_more_set, drop-drop, drop_set_lt}
+use Rattle.std.proofs.lemmas.List.{length-take, length-drop, length-take-le, take_more, take_more_set, drop-drop, drop-set-lt}
 use Rattle.cipher.specs.Meaning.{Meaning}
 use Rattle.elmd.specs.Stream.{Frame}
 use Rattle.elmd.specs.Laws.{Sound}
@@ -72,7 +72,7 @@ module _ (M : Meaning) (o₀ : Opener) (calls : List OpenCall) (out₀ : List �
         record { after = omega arith; fits = omega arith; before = refl; rest = w.rest ∙ past };
     behind =
         let on : i + 1 ≡ 1 + i = omega arith in
-        drop_set_lt (i + 1) answers i x (omega arith) ∙ ap (λ (n : ℕ). drop n answers) on ∙ sym (two answers i) ∙ ap (drop 1) up.behind ∙ two answers₀ i ∙ ap (λ (n : ℕ). drop n answers₀) (sym on);
+        drop-set-lt (i + 1) answers i x (omega arith) ∙ ap (λ (n : ℕ). drop n answers) on ∙ sym (two answers i) ∙ ap (drop 1) up.behind ∙ two answers₀ i ∙ ap (λ (n : ℕ). drop n answers₀) (sym on);
     reached = λ u S k ec sound at.
         let r = up.reached u S k ec sound at in
         let mid : Progress = r.0 in

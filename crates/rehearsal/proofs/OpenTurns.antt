@@ -1,7 +1,7 @@
 -- One call on an opener.
 use Rattle.std.proofs.Common.{◌≡◌, ℕ, suc, pred, ◌+◌, ◌-◌, ◌*◌, ◌/◌, ◌<◌, ◌≤◌, min, Bool, true, false, cond, ◌&&◌, eqb, ltb, leb, ◌⊎◌, List, [], ◌∷◌, ◌++◌, length, take, drop, Some, None, Ok, Err, Option, Result, sym, refl, ap, ◌∙◌, subst, inl, inr, ⊎_elim, le_refl, suc-mul, add-one, arith, length-append, length-take}
 use Rattle.std.proofs.lemmas.List.{append-nil, length-take-le}
-use Rattle.std.proofs.lemmas.Bool.{cases_lt, cond-true, cond_false, lt-ltb, le-ltb, true≢false}
+use Rattle.std.proofs.lemmas.Bool.{cases_lt, cond-true, cond-false, lt-ltb, le-ltb, true≢false}
 use Rattle.cipher.specs.Meaning.{Meaning}
 use Rattle.elmd.specs.declared.refusal.Refusal.{Refusal}
 use Rattle.elmd.specs.declared.refusal.Refusal.TheVariants as why
@@ -163,7 +163,7 @@ module _ (u : Frame) (S k : ℕ) (b : Progress) (o : Opener) (sound : Sound u) (
 
     module _ (t : completes o (length piece) ≡ true) where
       lt : j < o.shape.checks
-      lt = ⊎_elim (λ x. x) (λ le. absurd (true≢false (sym t ∙ cond_false (ltb j o.shape.checks) (leb (next_end o - o.taken) (length piece)) false (le-ltb j o.shape.checks le)))) (cases_lt j o.shape.checks)
+      lt = ⊎_elim (λ x. x) (λ le. absurd (true≢false (sym t ∙ cond-false (ltb j o.shape.checks) (leb (next_end o - o.taken) (length piece)) false (le-ltb j o.shape.checks le)))) (cases_lt j o.shape.checks)
 
       enough : next_end o - o.taken ≤ length piece
       enough = Rattle.std.proofs.lemmas.Bool.leb-true (next_end o - o.taken) (length piece) (sym (cond-true (ltb j o.shape.checks) (leb (next_end o - o.taken) (length piece)) false (lt-ltb j o.shape.checks lt)) ∙ t)

@@ -1,7 +1,7 @@
 -- The calls on a sealer, one by one and in a row.
 use Rattle.std.proofs.Common.{◌≡◌, ℕ, zero, suc, ◌+◌, ◌-◌, ◌*◌, ◌%◌, ◌<◌, ◌≤◌, min, Bool, cond, eqb, ◌⊎◌, List, [], ◌∷◌, ◌++◌, length, get_or, take, drop, set, Some, None, Option, sym, refl, ap, ◌∙◌, subst, inl, inr, append_assoc, arith}
 use borrow.Rule.Slice.PartMut.{put_mid}
-use Rattle.std.proofs.lemmas.List.{append-nil, length-append, length-drop, length-take, length-take-le, take_at, drop_at, drop-append-le, take-append-drop, drop-drop, drop_set_lt, take_more, take_more_set, drop_more}
+use Rattle.std.proofs.lemmas.List.{append-nil, length-append, length-drop, length-take, length-take-le, take_at, drop_at, drop-append-le, take-append-drop, drop-drop, drop-set-lt, take_more, take_more_set, drop_more}
 use Rattle.cipher.specs.Meaning.{Meaning}
 use Rattle.elmd.specs.declared.refusal.Mark.{Mark}
 use Rattle.elmd.specs.declared.settings.Settings.{Settings}
@@ -138,7 +138,7 @@ upto_more m m' st n held₀ held held' c a calls answers₀ answers out₀ out o
       within = omega (arith, t.within, u.long);
       long = same ∙ u.long;
       back = behind out₀ out out' pos pos' (omega arith) u.back t.back;
-      untouched = drop_set_lt (i + 1) answers i a (omega arith) ∙ sym (drop-drop 1 i answers) ∙ ap (drop 1) u.untouched ∙ drop-drop 1 i answers₀;
+      untouched = drop-set-lt (i + 1) answers i a (omega arith) ∙ sym (drop-drop 1 i answers) ∙ ap (drop 1) u.untouched ∙ drop-drop 1 i answers₀;
       kept = t.kept;
       told = ap (λ (x : List SealAnswer). x ++ answers_of t₀ f₀ n (stage_of held') (length out₀ - pos') (drop (i + 1) calls)) told-now
           ∙ ap (λ (x : List SealAnswer). (take i answers ++ a ∷ []) ++ x) tell

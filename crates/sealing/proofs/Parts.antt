@@ -1,7 +1,7 @@
 -- A seal that takes its bytes in parts.
 use Rattle.std.proofs.Common.{◌≡◌, ℕ, suc, ◌+◌, ◌-◌, ◌*◌, ◌/◌, ◌%◌, ◌<◌, ◌≤◌, min, Bool, cond, eqb, ltb, List, [], ◌++◌, length, take, drop, Ok, Err, Result, sym, refl, ap, ◌∙◌, subst, append_assoc, arith, length-append, length-drop, take-append-drop, length-take}
 use Rattle.std.proofs.lemmas.List.{take_all, take-take, drop-take, drop-drop, drop-append-le, drop_all}
-use Rattle.std.proofs.lemmas.Bool.{cond-true, cond_false, le-ltb, lt-ltb}
+use Rattle.std.proofs.lemmas.Bool.{cond-true, cond-false, le-ltb, lt-ltb}
 use Rattle.block.specs.Field.{five}
 use Rattle.block.specs.Value.{value}
 use Rattle.block.specs.Bytes.{of_bytes, padded}
@@ -161,8 +161,8 @@ take_parts piece i j =
 pub put_answered : (t n k size room w : ℕ) → size ≤ n - k → w ≡ handed_over t n (k + size) - handed_over t n k → w ≤ room → Ok w ≡ put_answer t n k size room
 put_answered t n k size room w h e f =
     let d : ℕ = handed_over t n (k + size) - handed_over t n k in
-    ap Ok e ∙ sym (cond_false (ltb room d) (Err OutputShort) (Ok d) (le-ltb room d (subst (λ (x : ℕ). x ≤ room) e f)))
-    ∙ sym (cond_false (ltb (n - k) size) (Err PieceTooLong) (refuse (ltb room d) OutputShort (Ok d)) (le-ltb (n - k) size h))
+    ap Ok e ∙ sym (cond-false (ltb room d) (Err OutputShort) (Ok d) (le-ltb room d (subst (λ (x : ℕ). x ≤ room) e f)))
+    ∙ sym (cond-false (ltb (n - k) size) (Err PieceTooLong) (refuse (ltb room d) OutputShort (Ok d)) (le-ltb (n - k) size h))
 
 -- before the first byte
 pub first_sealing : (u : Frame) (h : ClosedHeading) (s : Sealer) → Closes u h → s.settings ≡ h.settings → s.k ≡ 0 → value s.running.w ≡ value h.iv → value s.running.mask ≡ value h.base
@@ -194,15 +194,15 @@ finish_answered t n k room w f mark h e g em =
     let x : ℕ = stream_size t f n - handed_over t n n in
     let good : Result (ℕ × Mark) Refusal = Ok (x, mark_of (cond (eqb (n % 16) 0) 1 0)) in
     ap (λ (i : ℕ). Ok (i, mark)) (sym e) ∙ ap (λ (i : Mark). Ok (x, i)) em
-    ∙ sym (cond_false (ltb room x) (Err OutputShort) good (le-ltb room x (subst (λ (i : ℕ). i ≤ room) (sym e) g)))
-    ∙ sym (cond_false (ltb k n) (Err BytesMissing) (refuse (ltb room x) OutputShort good) (le-ltb k n h))
+    ∙ sym (cond-false (ltb room x) (Err OutputShort) good (le-ltb room x (subst (λ (i : ℕ). i ≤ room) (sym e) g)))
+    ∙ sym (cond-false (ltb k n) (Err BytesMissing) (refuse (ltb room x) OutputShort good) (le-ltb k n h))
 
 pub finish_refused : (t n k room w : ℕ) (f : Bool) → n ≤ k → stream_size t f n - handed_over t n n ≡ w → room < w → Err OutputShort ≡ finish_answer t f n k room
 finish_refused t n k room w f h e g =
     let x : ℕ = stream_size t f n - handed_over t n n in
     let good : Result (ℕ × Mark) Refusal = Ok (x, mark_of (cond (eqb (n % 16) 0) 1 0)) in
     sym (cond-true (ltb room x) (Err OutputShort) good (lt-ltb room x (subst (λ (i : ℕ). room < i) (sym e) g)))
-    ∙ sym (cond_false (ltb k n) (Err BytesMissing) (refuse (ltb room x) OutputShort good) (le-ltb k n h))
+    ∙ sym (cond-false (ltb k n) (Err BytesMissing) (refuse (ltb room x) OutputShort good) (le-ltb k n h))
 
 pub last_held : (u : Frame) (acc : List ℕ) (s : Sealer) (held v : ℕ) → Sealing u acc s → s.k ≡ s.n → held ≡ s.n - 16 * sealed_blocks s.n s.n → v ≡ of_bytes (padded (take 16 (drop 0 (take (held - 0) (drop 0 s.pending)))))
     → v ≡ block_at acc (suc (sealed_blocks s.n s.n))

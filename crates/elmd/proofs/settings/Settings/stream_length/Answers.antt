@@ -1,5 +1,5 @@
 use Rattle.std.proofs.Common.{◌≡◌, ℕ, pred, ◌+◌, ◌-◌, ◌*◌, ◌/◌, false, cond, ◌||◌, eqb, ltb, Ok, Err, sym, refl, ap, ◌∙◌, subst, arith}
-use Rattle.std.proofs.lemmas.Bool.{cond_false, or_from, ne_eqb, le-ltb}
+use Rattle.std.proofs.lemmas.Bool.{cond-false, or_from, ne_eqb, le-ltb}
 use Rattle.elmd.specs.declared.refusal.Refusal.TheVariants.{MessageLength}
 use Rattle.elmd.specs.Sizes.{stream_size, blocks_in}
 use Rattle.elmd.proofs.Counts.{stream_size_lem}
@@ -19,6 +19,6 @@ returns c =
     let n = c.args.n in
     let no : (eqb n 0 || ltb 16777216 n) ≡ false = or_from (eqb n 0) (ltb 16777216 n) (ne_eqb n 0 c.if-n-eq0.false) (le-ltb 16777216 n c.if-n-gt-MESSAGE-MOST.false) in
     record {
-      answer = ap Ok (size c) ∙ sym (cond_false (eqb n 0 || ltb 16777216 n) (Err MessageLength) (Ok (stream_size c.args.self.interval c.args.self.short_tag n)) no);
+      answer = ap Ok (size c) ∙ sym (cond-false (eqb n 0 || ltb 16777216 n) (Err MessageLength) (Ok (stream_size c.args.self.interval c.args.self.short_tag n)) no);
       exact = λ u m e l. stream_size_lem u m c.args.self n e l (omega arith) ∙ sym (size c);
     }

@@ -1,5 +1,5 @@
 use Rattle.std.proofs.Common.{◌≡◌, false, ◌||◌, eqb, ltb, Ok, Err, sym, refl, ap, ◌∙◌, arith}
-use Rattle.std.proofs.lemmas.Bool.{cond_false, or_from, ne_eqb, le-ltb}
+use Rattle.std.proofs.lemmas.Bool.{cond-false, or_from, ne_eqb, le-ltb}
 use Rattle.block.specs.Field.{five}
 use Rattle.block.specs.Value.{value}
 use Rattle.elmd.specs.declared.refusal.Refusal.TheVariants.{MessageLength}
@@ -13,6 +13,6 @@ returns c =
     let parts = c.into-parts.ensures in
     let base = ap (λ p. value p.1) parts in
     record {
-      answer = sym (cond_false (eqb n 0 || ltb 16777216 n) (Err MessageLength) (Ok tt) no);
+      answer = sym (cond-false (eqb n 0 || ltb 16777216 n) (Err MessageLength) (Ok tt) no);
       begun = (refl, refl, ap (λ p. p.0) parts, λ u h. first_sealing u c.args.h _ h (ap (λ p. p.0) parts) refl (ap (λ p. value p.2) parts) base (c.times5.ensures ∙ ap five base) c.new.ensures refl);
     }
