@@ -7,17 +7,17 @@ use Rattle.console.proofs.answers.Goals as goal
 
 pub answer-requires : goal.answer-requires
 answer-requires c =
-    subst Sized (sym c.in-ok-line.ensures)
-    (read_sized (take (c.line-end-end.result - c.loop-at.at) (drop c.loop-at.at c.args.text.now)))
+    subst Sized (sym c.in_ok-line.ensures)
+    (read_sized (take (c.line_end-end.result - c.loop-at.at) (drop c.loop-at.at c.args.text.now)))
 
 pub loop-at-preserved : goal.loop-at-preserved
 loop-at-preserved c = (
-  c.next-start-at.ensures.within (c.line-end-end.ensures.within (omega arith)).1,
-  goes_step c.args.text.now c.loop-at.at c.line-end-end.result c.next-start-at.result
-      (known_of c.loop-at.given) (known_of c.take.new.self) (command_of c.in-ok-line.line)
+  c.next_start-at.ensures.within (c.line_end-end.ensures.within (omega arith)).1,
+  goes_step c.args.text.now c.loop-at.at c.line_end-end.result c.next_start-at.result
+      (known_of c.loop-at.given) (known_of c.take.new.self) (command_of c.in_ok-line.line)
       (vec_items c.loop-at.out) (vec_items c.answer.new.out)
-      (c.line-end-end.ensures.splits (omega arith)) c.next-start-at.ensures.rest c.in-ok-line.ensures c.take.ensures
-      c.in-ok-answer.ensures
+      (c.line_end-end.ensures.splits (omega arith)) c.next_start-at.ensures.rest c.in_ok-line.ensures c.take.ensures
+      c.in_ok-answer.ensures
       c.loop-at.invariant.1,
 )
 

@@ -7,5 +7,5 @@ use Rattle.exports.proofs.aes10.Goals as goal
 
 pub returns : goal.returns
 returns c =
-    c.new.ensures ∙ ap (λ (k : List ℕ). aes10 (of_bytes k)) c.to-bytes.ensures ∙ ap aes10 (bytes_number_back (value c.load.result) (value_lt c.load.result))
+    c.new.ensures ∙ ap (λ (k : List ℕ). aes10 (of_bytes k)) c.to_bytes.ensures ∙ ap aes10 (bytes_number_back (value c.load.result) (value_lt c.load.result))
     ∙ ap aes10 c.load.ensures

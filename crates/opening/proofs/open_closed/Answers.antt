@@ -21,16 +21,16 @@ use Rattle.opening.proofs.open_closed.Goals as goal
 err_not_ok : {e : Refusal} {n : ℕ} → ◌≡◌ {A = Result ℕ Refusal} (Err e) (Ok n) → ⊥
 err_not_ok e = let z : ◌≡◌ {A = ℕ} 0 1 = cc in omega arith
 
-pub overflow-mul-n : goal.overflow-mul-n
-overflow-mul-n g c =
-    let laid = c.in-Ok.ensures (frame_of (g.C.Cipher.meaning c.args.c.now) (settings_bytes c.into-parts.result.0) [] []) refl in
+pub overflow_mul-n : goal.overflow_mul-n
+overflow_mul-n g c =
+    let laid = c.in-Ok.ensures (frame_of (g.C.Cipher.meaning c.args.c.now) (settings_bytes c.into_parts.result.0) [] []) refl in
     let m = laid.most in
     omega arith
 
 pub returns-then-out-n : goal.returns-then-out-n
 returns-then-out-n g c = record {
   opened = λ u ec cl.
-      let laid = c.in-Ok.ensures u (ap (λ (x : Settings). settings_bytes x) (ap (λ q. q.0) c.into-parts.ensures) ∙ cl.chosen) in
+      let laid = c.in-Ok.ensures u (ap (λ (x : Settings). settings_bytes x) (ap (λ q. q.0) c.into_parts.ensures) ∙ cl.chosen) in
       let l = laid.l_is in
       record {
         no_length = λ no. absurd (no laid.possible.0 laid.possible.1);
@@ -41,9 +41,9 @@ returns-then-out-n g c = record {
   same = refl;
 }
 
-pub open-part-requires : goal.open-part-requires
-open-part-requires g c =
-    let u = frame_of (g.C.Cipher.meaning c.args.c.now) (settings_bytes c.into-parts.result.0) [] [] in
+pub open_part-requires : goal.open_part-requires
+open_part-requires g c =
+    let u = frame_of (g.C.Cipher.meaning c.args.c.now) (settings_bytes c.into_parts.result.0) [] [] in
     let laid = c.in-Ok.ensures u refl in
     let few = c.if-out-n.false in (
       (refl, refl),
@@ -51,7 +51,7 @@ open-part-requires g c =
         record {
           some = laid.some;
           most = laid.most;
-          h_is = laid.h_is ∙ ap (λ (n : ℕ). pred c.in-Ok.shape.blocks / n) (interval_is u c.into-parts.result.0 refl);
+          h_is = laid.h_is ∙ ap (λ (n : ℕ). pred c.in-Ok.shape.blocks / n) (interval_is u c.into_parts.result.0 refl);
           size = laid.size;
           tag_most = laid.tag_most;
         },
@@ -62,27 +62,27 @@ open-part-requires g c =
 pub returns : goal.returns
 returns g c = record {
   opened = λ u ec cl.
-      let parts = c.into-parts.ensures in
-      let set : settings_bytes c.into-parts.result.0 ≡ u.settings = ap (λ (x : Settings). settings_bytes x) (ap (λ q. q.0) parts) ∙ cl.chosen in
+      let parts = c.into_parts.ensures in
+      let set : settings_bytes c.into_parts.result.0 ≡ u.settings = ap (λ (x : Settings). settings_bytes x) (ap (λ q. q.0) parts) ∙ cl.chosen in
       let bas = ap (λ q. value q.1) parts ∙ cl.based in
       let ivs = ap (λ q. value q.2) parts ∙ cl.started in
       let laid = c.in-Ok.ensures u set in
       let l = laid.l_is in
       let s = c.args.stream.now in
-      let first = first_reads u s c.into-parts.result.1 _ bas ivs refl c.times5.ensures c.new.ensures refl refl in
-      let found = c.open-part.ensures.judged u ec set first in
-      let sound : Sound u = record { lawful = subst (λ (m : Meaning). Lawful m) (sym ec) (g.met.C.Cipher.lawful c.args.c.now); iv_lt = (let b = value_lt c.into-parts.result.2 in subst (λ (n : ℕ). n < 2 ^ 128) ivs b) } in
-      let bytes = All-from_get_or (λ (x : ℕ). x < 256) s 0 (λ i h. Fits-lt-pow (c.type-inv.stream i)) in
+      let first = first_reads u s c.into_parts.result.1 _ bas ivs refl c.times5.ensures c.new.ensures refl refl in
+      let found = c.open_part.ensures.judged u ec set first in
+      let sound : Sound u = record { lawful = subst (λ (m : Meaning). Lawful m) (sym ec) (g.met.C.Cipher.lawful c.args.c.now); iv_lt = (let b = value_lt c.into_parts.result.2 in subst (λ (n : ℕ). n < 2 ^ 128) ivs b) } in
+      let bytes = All-from_get_or (λ (x : ℕ). x < 256) s 0 (λ i h. Fits-lt-pow (c.type_inv.stream i)) in
       let none : 16 * c.in-Ok.shape.blocks - 0 ≡ 16 * blocks_of u (length s) = omega arith in
-      let judge : (m : List ℕ) → MessageOf u (length s) (mark_number c.args.mark) m → Judgement u s (mark_number c.args.mark) c.args.out.now c.open-part.result _ =
-      λ m hm. judgement u sound s bytes (mark_number c.args.mark) m hm c.open-part.result c.open-part.new.part c.args.out.now _
-      (subst (λ (n : ℕ). Judged u s (mark_number c.args.mark) n c.open-part.result c.open-part.new.part) l found)
-      (ap (λ (n : ℕ). c.open-part.new.part ++ drop n c.args.out.now) none) in
+      let judge : (m : List ℕ) → MessageOf u (length s) (mark_number c.args.mark) m → Judgement u s (mark_number c.args.mark) c.args.out.now c.open_part.result _ =
+      λ m hm. judgement u sound s bytes (mark_number c.args.mark) m hm c.open_part.result c.open_part.new.part c.args.out.now _
+      (subst (λ (n : ℕ). Judged u s (mark_number c.args.mark) n c.open_part.result c.open_part.new.part) l found)
+      (ap (λ (n : ℕ). c.open_part.new.part ++ drop n c.args.out.now) none) in
       record {
         no_length = λ no. absurd (no laid.possible.0 laid.possible.1);
         no_room = λ m hm lt. absurd (let t = c.if-out-n.false in omega arith);
         judged = λ m hm room. judge m hm;
         found = (judge laid.possible.0 laid.possible.1).found;
       };
-  same = c.open-part.ensures.same;
+  same = c.open_part.ensures.same;
 }

@@ -9,9 +9,9 @@ pub returns-in-Ok : goal.returns-in-Ok
 returns-in-Ok g c =
     let m = g.C.Cipher.meaning in
     let made = c.in-Ok.ensures in
-    let driven = c.drive-opener.ensures in
-    let kept = c.closed-heading.ensures.same in
+    let driven = c.drive_opener.ensures in
+    let kept = c.closed_heading.ensures.same in
     record {
-      side = open_side (frame_of (m c.args.c.now) c.args.settings.now c.args.nonce.now (joined_bytes c.args.pieces.now)) c.in-Ok.h (m c.closed-heading.new.c) c.args.stream_length (mark_number c.args.mark) c.args.calls.now c.args.answers.now c.drive-opener.new.answers c.args.out.now c.drive-opener.new.out c.drive-opener.result made.answer (sym kept) made.closes driven.refused driven.law driven.rest;
+      side = open_side (frame_of (m c.args.c.now) c.args.settings.now c.args.nonce.now (joined_bytes c.args.pieces.now)) c.in-Ok.h (m c.closed_heading.new.c) c.args.stream_length (mark_number c.args.mark) c.args.calls.now c.args.answers.now c.drive_opener.new.answers c.args.out.now c.drive_opener.new.out c.drive_opener.result made.answer (sym kept) made.closes driven.refused driven.law driven.rest;
       same = driven.same ∙ kept;
     }

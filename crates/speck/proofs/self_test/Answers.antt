@@ -6,8 +6,8 @@ use Rattle.speck.proofs.self_test.Goals as goal
 
 pub returns : goal.returns
 returns c =
-    let plaintext = value c.test-vector.result.1 in
-    let ciphertext = value c.test-vector.result.2 in
+    let plaintext = value c.test_vector.result.1 in
+    let ciphertext = value c.test_vector.result.2 in
     let enc = ap (λ (m : Meaning). m.enc plaintext) c.new-speck.ensures in
     let dec = ap (λ (m : Meaning). m.dec ciphertext) (c.encrypt-forth.ensures.same ∙ c.new-speck.ensures) in
     let there = published in

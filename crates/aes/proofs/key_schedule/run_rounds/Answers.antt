@@ -8,9 +8,9 @@ loop-i-init c start e = e
 
 pub loop-i-preserved : goal.loop-i-preserved
 loop-i-preserved c start e =
-    rounds_more c.args.keys.now c.loop-i.i start c.loop-i.s _ (c.loop-i.invariant start e) c.full-round-t.ensures
+    rounds_more c.args.keys.now c.loop-i.i start c.loop-i.s _ (c.loop-i.invariant start e) c.full_round-t.ensures
 
 pub returns : goal.returns
 returns c =
     let e : c.loop-i.i ≡ c.args.n = omega arith in
-    c.loop-i.invariant c.args.start c.add-round-key-s.ensures ∙ ap (λ i. rounds c.args.keys.now i c.args.start) e
+    c.loop-i.invariant c.args.start c.add_round_key-s.ensures ∙ ap (λ i. rounds c.args.keys.now i c.args.start) e

@@ -9,7 +9,7 @@ loop-i-init c = filled_none (λ i. inv_sbox (get_or c.args.s i 0)) c.args.s (sea
 
 pub loop-i-preserved : goal.loop-i-preserved
 loop-i-preserved c =
-    filled_more (λ i. inv_sbox (get_or c.args.s i 0)) c.loop-i.t c.loop-i.i _ c.inv-sub.ensures c.loop-i-test.true c.loop-i.invariant
+    filled_more (λ i. inv_sbox (get_or c.args.s i 0)) c.loop-i.t c.loop-i.i _ c.inv_sub.ensures c.loop-i-test.true c.loop-i.invariant
 
 pub returns : goal.returns
 unfolding inv_sub_bytes

@@ -6,4 +6,4 @@ use Rattle.console.proofs.reply.put_bytes.Goals as goal
 pub returns : goal.returns
 returns c =
     three_parts (vec_items c.args.out.now) _ _ _ (c.args.letter ∷ 32 ∷ []) (to_hex c.args.bytes.now) 10
-    c.in-ok-extend-from-slice.ensures.items c.in-ok-put-hex.ensures c.in-ok-push.ensures.items
+    c.in_ok-extend_from_slice.ensures.items c.in_ok-put_hex.ensures c.in_ok-push.ensures.items

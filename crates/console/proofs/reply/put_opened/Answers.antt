@@ -8,7 +8,7 @@ use Rattle.console.proofs.reply.put_opened.Goals as goal
 pub returns : goal.returns
 returns g c =
     let u = frame_of (g.C.Cipher.meaning c.args.c.now) c.args.settings.now c.args.nonce.now c.args.heading.now in
-    let n = c.as-mut-slice.ensures.len ∙ c.in-ok-room.ensures.len in
-    IfOk-weaker c.put-opened-in.result _ _
-    (λ x a. (a.0, a.1, shown_reply u (mark_number c.args.mark) c.args.stream.now c.as-mut-slice.result.now a.0 n a.2))
-    c.put-opened-in.ensures
+    let n = c.as_mut_slice.ensures.len ∙ c.in_ok-room.ensures.len in
+    IfOk-weaker c.put_opened_in.result _ _
+    (λ x a. (a.0, a.1, shown_reply u (mark_number c.args.mark) c.args.stream.now c.as_mut_slice.result.now a.0 n a.2))
+    c.put_opened_in.ensures

@@ -7,4 +7,4 @@ use Rattle.console.proofs.reply.put_stream.Goals as goal
 pub returns : goal.returns
 returns c =
     three_parts (vec_items c.args.out.now) _ _ _ (83 ∷ 32 ∷ (48 + mark_number c.args.mark) ∷ 32 ∷ []) (to_hex c.args.stream.now) 10
-    (let a = c.in-ok-extend-from-slice.ensures.items in let n = c.number.ensures in cc) c.in-ok-put-hex.ensures c.in-ok-push.ensures.items
+    (let a = c.in_ok-extend_from_slice.ensures.items in let n = c.number.ensures in cc) c.in_ok-put_hex.ensures c.in_ok-push.ensures.items

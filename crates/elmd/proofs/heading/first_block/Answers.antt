@@ -4,4 +4,4 @@ use Rattle.elmd.proofs.Eight.{eight_eight}
 use Rattle.elmd.proofs.heading.first_block.Goals as goal
 
 pub returns : goal.returns
-returns c = c.from-bytes.ensures ∙ ap of_bytes (eight_eight c.args.n.now c.args.s.now (search rules) (search rules))
+returns c = c.from_bytes.ensures ∙ ap of_bytes (eight_eight c.args.n.now c.args.s.now (search rules) (search rules))

@@ -9,7 +9,7 @@ use Rattle.elmd.proofs.heading.open_heading.Goals as goal
 pub returns : goal.returns
 returns g c =
     let m = g.C.Cipher.meaning c.args.c.now in
-    let chosen = c.in-ok-chosen.ensures in
+    let chosen = c.in_ok-chosen.ensures in
     let first = first_head (frame_of m c.args.settings.now c.args.nonce.now []) in
     record {
       answer = cc;

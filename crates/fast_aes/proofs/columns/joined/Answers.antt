@@ -7,5 +7,5 @@ use Rattle.fast_aes.proofs.columns.joined.Goals as goal
 pub returns : goal.returns
 returns c =
     let a = c.args in
-    let e : c.from-be-bytes.result ≡ of_bytes (a.p ∷ a.q ∷ a.r ∷ a.s ∷ []) = omega (arith, c.from-be-bytes.ensures) in
+    let e : c.from_be_bytes.result ≡ of_bytes (a.p ∷ a.q ∷ a.r ∷ a.s ∷ []) = omega (arith, c.from_be_bytes.ensures) in
     ap bytes4 e ∙ bytes4_of a.p a.q a.r a.s (search rules) (search rules) (search rules) (search rules)

@@ -21,4 +21,4 @@ pub returns : goal.returns
 unfolding spread spreads
 returns c =
     let e : c.loop-i.i ≡ c.args.n = omega arith in
-    c.loop-i.invariant (spread c.args.start) c.add-key-s.ensures ∙ ap (λ i. rounds (spreads c.args.keys.now) i (spread c.args.start)) e
+    c.loop-i.invariant (spread c.args.start) c.add_key-s.ensures ∙ ap (λ i. rounds (spreads c.args.keys.now) i (spread c.args.start)) e

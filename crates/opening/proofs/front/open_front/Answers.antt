@@ -17,8 +17,8 @@ loop-i-init g c =
     let b = c.requires.1.0 in
     (refl, omega arith, b ∙ sym z, λ u ec et r. passed_none u c.args.stream.now c.args.first _ r refl)
 
-pub open-block-good-requires : goal.open-block-good-requires
-open-block-good-requires g c =
+pub open_block-good-requires : goal.open_block-good-requires
+open_block-good-requires g c =
     let inv = c.loop-i.invariant in
     let i = c.loop-i.i in
     let t = c.args.t in
@@ -42,9 +42,9 @@ returns-then-not-good g c =
       fronts = λ u ec et r.
           let ok = inv.3 u ec et r in
           let at = ap (λ (k : ℕ). take (stride c.args.t c.loop-i.s.since) (drop (16 * (i + k)) st)) ok.reads.passed in
-          let rd = c.open-block-good.ensures.steps u st i (ec ∙ sym inv.0) et at ok.reads in
-          failed_first u st i c.loop-i.s c.open-block-good.result.0 (value c.open-block-good.result.1) c.open-block-good.result.2 _ [] ok rd c.args.p c.loop-i-test.true c.if-not-good.true;
-      same = c.open-block-good.ensures.same ∙ inv.0;
+          let rd = c.open_block-good.ensures.steps u st i (ec ∙ sym inv.0) et at ok.reads in
+          failed_first u st i c.loop-i.s c.open_block-good.result.0 (value c.open_block-good.result.1) c.open_block-good.result.2 _ [] ok rd c.args.p c.loop-i-test.true c.if-not-good.true;
+      same = c.open_block-good.ensures.same ∙ inv.0;
     }
 
 pub loop-i-preserved : goal.loop-i-preserved
@@ -53,7 +53,7 @@ loop-i-preserved g c =
     let i = c.loop-i.i in
     let t = c.args.t in
     let st = c.args.stream.now in
-    let n = c.open-block-good.ensures.counts in
+    let n = c.open_block-good.ensures.counts in
     let s1 = since_is i t c.loop-i.s.since inv.1 in
     let s2 = quo_next i t c.loop-i.s.since inv.1 in
     let kept = c.loop-i.auto.out in
@@ -61,14 +61,14 @@ loop-i-preserved g c =
     let far : 16 * suc i ≡ 16 * i + 16 = omega arith in
     let front = ap (λ (k : ℕ). take k c.store.new.out) far ∙ c.store.ensures.front room in
     rw (add-one i) (
-      c.open-block-good.ensures.same ∙ inv.0,
+      c.open_block-good.ensures.same ∙ inv.0,
       s1 ∙ ap (λ (k : ℕ). suc i / t * t + k) (sym n.0),
       n.1 ∙ ap (λ (k : ℕ). k + cond (eqb (c.loop-i.s.since + 1) t) 1 0) inv.2 ∙ sym s2,
       λ u ec et r.
           let ok = inv.3 u ec et r in
           let at = ap (λ (k : ℕ). take (stride t c.loop-i.s.since) (drop (16 * (i + k)) st)) ok.reads.passed in
-          let rd = c.open-block-good.ensures.steps u st i (ec ∙ sym inv.0) et at ok.reads in
-          passed_more u st i c.loop-i.s c.open-block-good.result.0 (value c.open-block-good.result.1) c.open-block-good.result.2 _ _ ok rd c.if-not-good.false front,
+          let rd = c.open_block-good.ensures.steps u st i (ec ∙ sym inv.0) et at ok.reads in
+          passed_more u st i c.loop-i.s c.open_block-good.result.0 (value c.open_block-good.result.1) c.open_block-good.result.2 _ _ ok rd c.if-not-good.false front,
     )
 
 pub returns : goal.returns

@@ -9,7 +9,7 @@ use Rattle.opening.proofs.last.tag_matches.Goals as goal
 
 pub loop-i-preserved : goal.loop-i-preserved
 loop-i-preserved c =
-    let a = c.to-bytes-bytes.result in
+    let a = c.to_bytes-bytes.result in
     let s = c.args.stream.now in
     let at = c.args.at in
     let i = c.loop-i.i in
@@ -24,13 +24,13 @@ loop-i-preserved c =
 
 pub returns : goal.returns
 returns c =
-    let a = c.to-bytes-bytes.result in
+    let a = c.to_bytes-bytes.result in
     let s = c.args.stream.now in
     let at = c.args.at in
     let i = c.loop-i.i in
     let n : i ≡ length s - at = omega arith in
     let all : take i (drop at s) ≡ drop at s = take_all i (drop at s) (simp length-drop (omega arith)) in
-    let b : a ≡ bytes_of (value c.args.tag) = c.to-bytes-bytes.ensures in (
+    let b : a ≡ bytes_of (value c.args.tag) = c.to_bytes-bytes.ensures in (
       λ t. let e = c.loop-i.invariant.0 (eqb-true c.loop-i.diff 0 t) in cc,
       λ t. eq-eqb c.loop-i.diff 0 (c.loop-i.invariant.1 (cc)),
     )

@@ -5,4 +5,4 @@ use Rattle.opening.proofs.segment.copy_at.Goals as goal
 pub returns : goal.returns
 returns c =
     let e : c.args.at + length c.args.piece.now - c.args.at ≡ length c.args.piece.now = omega arith in
-    simp (c.copy-from-slice.ensures.after, e, drop-drop)
+    simp (c.copy_from_slice.ensures.after, e, drop-drop)

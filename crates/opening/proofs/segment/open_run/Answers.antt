@@ -12,8 +12,8 @@ loop-i-init g c = (
   λ u st i ec et th r. ran_none u st c.args.t i c.args.first _ c.requires.1.1.0.0 r,
 )
 
-pub open-block-holds-requires : goal.open-block-holds-requires
-open-block-holds-requires g c =
+pub open_block-holds-requires : goal.open_block-holds-requires
+open_block-holds-requires g c =
     let i = c.loop-i.i in
     let h = c.loop-i-test.true in
     let nt = c.requires.1.0 in
@@ -39,16 +39,16 @@ loop-i-preserved g c =
     let kept = c.loop-i.auto.held in
     let lt : i < t = omega arith in
     let room : 16 * i + 16 ≤ length c.loop-i.held = omega arith in
-    let cn = c.open-block-holds.ensures.counts in (
-      c.open-block-holds.ensures.same ∙ inv.0,
-      counted_more c.args.first c.loop-i.s c.open-block-holds.result.0 t i lt inv.1 cn.0 cn.1,
+    let cn = c.open_block-holds.ensures.counts in (
+      c.open_block-holds.ensures.same ∙ inv.0,
+      counted_more c.args.first c.loop-i.s c.open_block-holds.result.0 t i lt inv.1 cn.0 cn.1,
       drops_more c.loop-i.held c.args.held.now c.store.new.out i inv.2 (c.store.ensures.back room),
       λ u st k ec et th r.
           let ran = inv.3 u st k ec et th r in
           let pl = place_same u st t k i c.args.n c.args.first c.loop-i.s c.args.held.now c.loop-i.held c.loop-i.good et h nt inv.1 inv.2 th r ran in
-          let rd = c.open-block-holds.ensures.steps u st (k + i) (ec ∙ sym inv.0) et pl ran.reads in
+          let rd = c.open_block-holds.ensures.steps u st (k + i) (ec ∙ sym inv.0) et pl ran.reads in
           ran_more u st t k i c.args.n c.args.first c.loop-i.s c.args.held.now c.loop-i.held c.loop-i.good et h nt inv.1 inv.2 th r ran
-          c.open-block-holds.result.0 (value c.open-block-holds.result.1) c.open-block-holds.result.2 c.store.new.out rd (c.store.ensures.front room),
+          c.open_block-holds.result.0 (value c.open_block-holds.result.1) c.open_block-holds.result.2 c.store.new.out rd (c.store.ensures.front room),
     )
 
 pub returns : goal.returns

@@ -14,8 +14,8 @@ returns g c = record {
       let k = c.args.mark in
       let b = loaded_in st str 16 (p + p / t_of u) c.args.at (value c.load.result) (ap (take 16) ea) (omega arith) c.requires c.load.ensures in
       let e = last_is u str p s r k (value c.load.result) b in
-      let v = c.last-pair.ensures.value in
-      let both : (value c.last-pair.result.0, value c.last-pair.result.1) ≡ (last_r u str (suc p) (mark_number k), tag_r u str (suc p) (mark_number k)) = cc in
+      let v = c.last_pair.ensures.value in
+      let both : (value c.last_pair.result.0, value c.last_pair.result.1) ≡ (last_r u str (suc p) (mark_number k), tag_r u str (suc p) (mark_number k)) = cc in
       (ap (λ (q : ℕ × ℕ). q.0) both, ap (λ (q : ℕ × ℕ). q.1) both);
-  same = c.last-pair.ensures.same;
+  same = c.last_pair.ensures.same;
 }

@@ -6,10 +6,10 @@ pub returns : goal.returns
 returns g c =
     let m = c.args.message.now in
     let p = c.args.p in
-    let k = marked_is m c.of-length-mark.result c.of-length-mark.ensures in
+    let k = marked_is m c.of_length-mark.result c.of_length-mark.ensures in
     record {
       mark = k;
-      back = c.write-end.ensures.back;
-      ends = λ u ec r. c.write-end.ensures.ends u m p ec r k (loaded_is m p (value c.load-b.result) c.load-b.ensures);
-      same = c.write-end.ensures.same;
+      back = c.write_end.ensures.back;
+      ends = λ u ec r. c.write_end.ensures.ends u m p ec r k (loaded_is m p (value c.load-b.result) c.load-b.ensures);
+      same = c.write_end.ensures.same;
     }

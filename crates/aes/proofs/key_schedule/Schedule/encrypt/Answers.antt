@@ -15,4 +15,4 @@ returns c =
       | then-last w ↦ let t : Is true = cc in rw w.if-last.true t
       | else-last w ↦ let t : Is false = cc in rw w.if-last.false t
     ] in
-    c.from-bytes.ensures ∙ enc_is c.args.last c.args.n k.keys (value c.args.b) c.if-last.out k.ok e
+    c.from_bytes.ensures ∙ enc_is c.args.last c.args.n k.keys (value c.args.b) c.if-last.out k.ok e

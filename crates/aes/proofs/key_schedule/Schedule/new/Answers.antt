@@ -4,8 +4,8 @@ use Rattle.block.specs.Bytes.{of_bytes, Bytes}
 use Rattle.aes.proofs.Turns.{schedule_key, schedule_kept}
 use Rattle.aes.proofs.key_schedule.Schedule.new.Goals as goal
 
-pub invariant-of-result : goal.invariant-of-result
-invariant-of-result c =
+pub invariant_of-result : goal.invariant_of-result
+invariant_of-result c =
     let key = c.args.key.now in
     let bytes : Bytes key = All-from_get_or _ key 0 (search rules) in
     (schedule_kept key c.expand.result (search rules) bytes c.expand.ensures, tt)

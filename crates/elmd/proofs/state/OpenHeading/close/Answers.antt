@@ -23,9 +23,9 @@ returns g c = record {
       record {
         chosen = o.chosen;
         based = o.based;
-        started = c.last-link-iv.ensures.value ∙ ap (λ (n : ℕ). last_link (g.C.Cipher.meaning c.args.c.now) (value c.args.self.chain) (value c.args.self.mask) (take n p)) from ∙ ap (λ (z : Meaning). last_link z (value c.args.self.chain) (value c.args.self.mask) (take f p)) (sym m)
+        started = c.last_link-iv.ensures.value ∙ ap (λ (n : ℕ). last_link (g.C.Cipher.meaning c.args.c.now) (value c.args.self.chain) (value c.args.self.mask) (take n p)) from ∙ ap (λ (z : Meaning). last_link z (value c.args.self.chain) (value c.args.self.mask) (take f p)) (sym m)
             ∙ ap (λ (z : ℕ). last_link u.cipher z (value c.args.self.mask) (take f p)) o.chained
             ∙ ap (λ (z : ℕ). last_link u.cipher (inner_head u (suc (c.args.self.len / 16))) z (take f p)) o.masked ∙ s;
       };
-  same = c.last-link-iv.ensures.same;
+  same = c.last_link-iv.ensures.same;
 }

@@ -17,12 +17,12 @@ returns c =
     let e : Is c.args.last =
     elim c.if-last.branch [
       | then-last w ↦
-          let t : spread w.run-inv-rounds-out.result ≡ decipher true n (spreads ks) (bytes_of b) =
-          from_last ks n c.requires.1 (bytes_of b) _ _ c.split-s.ensures _ w.add-key.ensures w.run-inv-rounds-out.ensures in
+          let t : spread w.run_inv_rounds-out.result ≡ decipher true n (spreads ks) (bytes_of b) =
+          from_last ks n c.requires.1 (bytes_of b) _ _ c.split-s.ensures _ w.add_key.ensures w.run_inv_rounds-out.ensures in
           rw (w.if-last.true, w.out-is) t
       | else-last w ↦
-          let t : spread w.run-inv-rounds-out-else-last.result ≡ decipher false n (spreads ks) (bytes_of b) =
-          from_full ks n c.requires.1 (bytes_of b) _ _ c.split-s.ensures _ _ c.requires.0 w.add-key-else-last.ensures w.unmix.ensures w.run-inv-rounds-out-else-last.ensures in
+          let t : spread w.run_inv_rounds-out-else-last.result ≡ decipher false n (spreads ks) (bytes_of b) =
+          from_full ks n c.requires.1 (bytes_of b) _ _ c.split-s.ensures _ _ c.requires.0 w.add_key-else-last.ensures w.unmix.ensures w.run_inv_rounds-out-else-last.ensures in
           rw (w.if-last.false, w.out-is) t
     ] in
     c.join.ensures ∙ dec_is c.args.last n (spreads ks) b (spread c.if-last.out) c.args.self.now.expanded e

@@ -14,12 +14,12 @@ returns c =
     let n = c.args.n in
     let b = value c.args.b in
     let Is : Bool → Type 0 = λ last. spread c.if-last.out ≡ encipher last n (spreads k.keys) (bytes_of b) in
-    let full : spread c.run-rounds-s.result ≡ rounds (spreads k.keys) n (bytes_of b) =
-    c.run-rounds-s.ensures ∙ ap (rounds (spreads k.keys) n) c.split.ensures in
+    let full : spread c.run_rounds-s.result ≡ rounds (spreads k.keys) n (bytes_of b) =
+    c.run_rounds-s.ensures ∙ ap (rounds (spreads k.keys) n) c.split.ensures in
     let e : Is c.args.last =
     elim c.if-last.branch [
       | then-last w ↦
-          let t : Is true = ap spread w.out-is ∙ w.last-round-out.ensures ∙ ap₂ last_round (sym (spreads_at k.keys (n + 1) (omega arith))) full in
+          let t : Is true = ap spread w.out-is ∙ w.last_round-out.ensures ∙ ap₂ last_round (sym (spreads_at k.keys (n + 1) (omega arith))) full in
           rw w.if-last.true t
       | else-last w ↦ let t : Is false = ap spread w.out-is ∙ full in rw w.if-last.false t
     ] in

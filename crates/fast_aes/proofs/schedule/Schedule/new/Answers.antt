@@ -6,17 +6,17 @@ use Rattle.fast_aes.specs.Words.{spreads}
 use Rattle.fast_aes.proofs.Keying.{schedule_made}
 use Rattle.fast_aes.proofs.schedule.Schedule.new.Goals as goal
 
-pub invariant-of-result : goal.invariant-of-result
-invariant-of-result c =
+pub invariant_of-result : goal.invariant_of-result
+invariant_of-result c =
     let key = c.args.key.now in
     let ks = c.expand-keys.result in
     let bytes : Bytes key = All-from_get_or _ key 0 (search rules) in
-    let e = schedule_made key ks _ _ (search rules) bytes c.expand-keys.ensures c.split.ensures c.from-bytes.ensures in
-    (schedule_kept key (spreads ks) (search rules) bytes e, (c.unmix-all-inv-keys.ensures, tt))
+    let e = schedule_made key ks _ _ (search rules) bytes c.expand-keys.ensures c.split.ensures c.from_bytes.ensures in
+    (schedule_kept key (spreads ks) (search rules) bytes e, (c.unmix_all-inv_keys.ensures, tt))
 
 pub returns : goal.returns
 returns c =
     let key = c.args.key.now in
     let ks = c.expand-keys.result in
     let bytes : Bytes key = All-from_get_or _ key 0 (search rules) in
-    ap of_bytes (schedule_key key (spreads ks) (schedule_made key ks _ _ (search rules) bytes c.expand-keys.ensures c.split.ensures c.from-bytes.ensures))
+    ap of_bytes (schedule_key key (spreads ks) (schedule_made key ks _ _ (search rules) bytes c.expand-keys.ensures c.split.ensures c.from_bytes.ensures))

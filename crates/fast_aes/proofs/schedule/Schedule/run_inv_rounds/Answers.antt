@@ -15,7 +15,7 @@ loop-i-preserved c =
     let s : List ℕ = inv_sub_bytes (inv_shift_rows (spread (l.a ∷ l.b ∷ l.c ∷ l.d ∷ []))) in
     let turned =
     inv_round_is (get_or k.keys (j + 1) []) (get_or k.inv_keys (j + 1) []) (unmixed_at k.keys k.inv_keys k.unmixed (j + 1) h) l.a l.b l.c l.d _ _ _ _
-    c.inv-mixed-e.ensures c.inv-mixed-f.ensures c.inv-mixed-g.ensures c.inv-mixed-h.ensures in
+    c.inv_mixed-e.ensures c.inv_mixed-f.ensures c.inv_mixed-g.ensures c.inv_mixed-h.ensures in
     inv_rounds_less (spreads k.keys) l.i j s _ (omega arith)
     (ap (λ (z : List ℕ). inv_sub_bytes (inv_shift_rows z)) turned ∙ ap (λ (z : List ℕ). inv_round z s) (sym (spreads_at k.keys (j + 1) h)))
     ∙ l.invariant
@@ -26,4 +26,4 @@ returns c =
     let l = c.loop-i in
     let ks : List (List ℕ) = spreads c.args.self.now.keys in
     let e : 0 ≡ l.i = omega arith in
-    c.inv-last-round.ensures ∙ ap (λ i. inv_rounds ks i (inv_sub_bytes (inv_shift_rows (spread (l.a ∷ l.b ∷ l.c ∷ l.d ∷ []))))) e ∙ l.invariant
+    c.inv_last_round.ensures ∙ ap (λ i. inv_rounds ks i (inv_sub_bytes (inv_shift_rows (spread (l.a ∷ l.b ∷ l.c ∷ l.d ∷ []))))) e ∙ l.invariant

@@ -5,14 +5,14 @@ use Rattle.fileparts.proofs.Laying.{early_ok, some_frame, few, lays, possible}
 use Rattle.fileparts.proofs.Walks.{walks}
 use Rattle.fileparts.proofs.reader.Reader.new.Goals as goal
 
-pub overflow-cast-result-2 : goal.overflow-cast-result-2
-overflow-cast-result-2 c =
+pub overflow_cast-result-2 : goal.overflow_cast-result-2
+overflow_cast-result-2 c =
     let s = settings_bytes c.in-Ok-read.settings in
     let f = (few s c.in-Ok-shape.shape (c.in-Ok-shape.ensures (some_frame s) refl)).0 in
     search rules
 
-pub overflow-cast-result-3 : goal.overflow-cast-result-3
-overflow-cast-result-3 c =
+pub overflow_cast-result-3 : goal.overflow_cast-result-3
+overflow_cast-result-3 c =
     let s = settings_bytes c.in-Ok-read.settings in
     let f = (few s c.in-Ok-shape.shape (c.in-Ok-shape.ensures (some_frame s) refl)).1 in
     search rules

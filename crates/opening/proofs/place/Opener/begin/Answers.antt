@@ -11,8 +11,8 @@ use Rattle.opening.proofs.Standings.{plain_frame}
 use Rattle.opening.proofs.Openings.{reads_start}
 use Rattle.opening.proofs.place.Opener.begin.Goals as goal
 
-pub invariant-of-place : goal.invariant-of-place
-invariant-of-place c =
+pub invariant_of-place : goal.invariant_of-place
+invariant_of-place c =
     let s = c.settings-settings.result in
     let u = plain_frame s in
     let laid = c.in-Ok.ensures u refl in
@@ -25,7 +25,7 @@ invariant-of-place c =
 pub returns : goal.returns
 returns c =
     let s = c.settings-settings.result in
-    let parts = c.into-parts.ensures in
+    let parts = c.into_parts.ensures in
     let es : s ≡ c.args.h.settings = c.settings-settings.ensures in
     let t : 1 ≤ s.interval = (let z = c.if-settings-eq0.false in omega (arith, z)) in
     record {
@@ -38,13 +38,13 @@ returns c =
           let set : settings_bytes s ≡ u.settings = ap settings_bytes es ∙ cl.chosen in
           let bas = ap (λ q. value q.1) parts ∙ cl.based in
           let ivs = ap (λ q. value q.2) parts ∙ cl.started in
-          let first = first_reads u [] c.into-parts.result.1 _ bas ivs refl c.times5.ensures c.new.ensures refl refl in
+          let first = first_reads u [] c.into_parts.result.1 _ bas ivs refl c.times5.ensures c.new.ensures refl refl in
           record {
             filling = refl;
             chosen = set;
             counted = refl;
             bytes = tt;
-            started = subst (λ (n : ℕ). n < 2 ^ 128) ivs (value_lt c.into-parts.result.2);
+            started = subst (λ (n : ℕ). n < 2 ^ 128) ivs (value_lt c.into_parts.result.2);
             reads = reads_start u _ first;
             checked = λ k p h. absurd (omega arith);
             holds = sym (Rattle.std.proofs.lemmas.List.drop_all (16 * (0 * t_of u + 0)) [] (omega arith));

@@ -8,16 +8,16 @@ use Rattle.opening.proofs.Messages.{end_told}
 use Rattle.opening.proofs.Calls.{no_refusal, finish_open}
 use Rattle.opening.proofs.place.Opener.finish.Goals as goal
 
-pub overflow-sub-n : goal.overflow-sub-n
-overflow-sub-n g c = let a = blocks_low c.args.self.now in omega arith
+pub overflow_sub-n : goal.overflow_sub-n
+overflow_sub-n g c = let a = blocks_low c.args.self.now in omega arith
 
-pub overflow-sub-n-2 : goal.overflow-sub-n-2
-overflow-sub-n-2 g c = let a = blocks_low c.args.self.now in let b = c.args.self.now.lies.0 in omega arith
+pub overflow_sub-n-2 : goal.overflow_sub-n-2
+overflow_sub-n-2 g c = let a = blocks_low c.args.self.now in let b = c.args.self.now.lies.0 in omega arith
 
-pub judge-rest-requires : goal.judge-rest-requires
-judge-rest-requires g c =
+pub judge_rest-requires : goal.judge_rest-requires
+judge_rest-requires g c =
     let o = c.args.self.now in
-    let f = finish_open o (length c.args.out.now) c.in-default.ensures in
+    let f = finish_open o (length c.args.out.now) c.in_default.ensures in
     let f0 = f.0 in
     let f1 = f.1 in
     let a = blocks_low o in
@@ -33,12 +33,12 @@ judge-rest-requires g c =
     let size : length o.held ≡ 2048 = search rules in
     ((o.stands.0, omega arith), (omega arith, (o.tagged.1, (omega arith, omega arith))))
 
-pub returns-in-Some-judge-rest : goal.returns-in-Some-judge-rest
-returns-in-Some-judge-rest g c =
+pub returns-in-Some-judge_rest : goal.returns-in-Some-judge_rest
+returns-in-Some-judge_rest g c =
     let o = c.args.self.now in
-    let f = finish_open o (length c.args.out.now) c.in-default.ensures in
-    let k = c.in-Some-judge-rest.k in
-    let e = c.in-Some-judge-rest.ensures in
+    let f = finish_open o (length c.args.out.now) c.in_default.ensures in
+    let k = c.in-Some-judge_rest.k in
+    let e = c.in-Some-judge_rest.ensures in
     let size : length o.held ≡ 2048 = search rules in
     let w = e.wrote in
     let w0 = w.0 in
@@ -47,32 +47,32 @@ returns-in-Some-judge-rest g c =
     let some = o.lies.0 in
     record {
       done = record {
-        refused = λ y q. absurd (no_refusal _ y c.in-default.ensures q);
+        refused = λ y q. absurd (no_refusal _ y c.in_default.ensures q);
         judged = λ _. (omega arith, omega arith, record { settings_kept = refl; shape_kept = refl; mark_kept = refl; size_kept = refl; counted = sym (add-zero o.taken) }, refl, w.2, e.wiped ∙ ap (λ (n : ℕ). replicate n 0) size);
       };
       means = λ u s ec ok none.
           let r = e.judged u s (o.state.checks * t_of u) ec ok.chosen (rest_there u s o ok f.0) ok.reads in
-          end_told u (subst (λ (m : Meaning). Lawful m) (sym ec) (g.met.C.Cipher.lawful c.args.c.now)) s o ok f.0 (Ok k) c.judge-rest.new.out
-          (r.0, right_is u s o ok f.0 r.0 r.2.right, opened_is u s o ok f.0 r.0 k c.judge-rest.new.out r.1 r.2);
+          end_told u (subst (λ (m : Meaning). Lawful m) (sym ec) (g.met.C.Cipher.lawful c.args.c.now)) s o ok f.0 (Ok k) c.judge_rest.new.out
+          (r.0, right_is u s o ok f.0 r.0 r.2.right, opened_is u s o ok f.0 r.0 k c.judge_rest.new.out r.1 r.2);
       finishes = λ u s ec ok none.
           let r = e.judged u s (o.state.checks * t_of u) ec ok.chosen (rest_there u s o ok f.0) ok.reads in
-          (r.0, right_is u s o ok f.0 r.0 r.2.right, opened_is u s o ok f.0 r.0 k c.judge-rest.new.out r.1 r.2);
+          (r.0, right_is u s o ok f.0 r.0 r.2.right, opened_is u s o ok f.0 r.0 k c.judge_rest.new.out r.1 r.2);
       same = e.same;
     }
 
 pub returns-in-None : goal.returns-in-None
 returns-in-None g c =
     let o = c.args.self.now in
-    let f = finish_open o (length c.args.out.now) c.in-default.ensures in
+    let f = finish_open o (length c.args.out.now) c.in_default.ensures in
     let e = c.in-None.ensures in
     let size : length o.held ≡ 2048 = search rules in
     record {
       done = record {
-        refused = λ y q. absurd (no_refusal _ y c.in-default.ensures q);
+        refused = λ y q. absurd (no_refusal _ y c.in_default.ensures q);
         judged = λ _. (refl, record { settings_kept = refl; shape_kept = refl; mark_kept = refl; size_kept = refl; counted = sym (add-zero o.taken) }, refl, e.wiped ∙ ap (λ (n : ℕ). replicate n 0) size, e.wrote);
       };
       means = λ u s ec ok none.
-          end_told u (subst (λ (m : Meaning). Lawful m) (sym ec) (g.met.C.Cipher.lawful c.args.c.now)) s o ok f.0 (Err why.BadTag) c.judge-rest.new.out
+          end_told u (subst (λ (m : Meaning). Lawful m) (sym ec) (g.met.C.Cipher.lawful c.args.c.now)) s o ok f.0 (Err why.BadTag) c.judge_rest.new.out
           (λ q x. e.judged u s (o.state.checks * t_of u) ec ok.chosen (rest_there u s o ok f.0) ok.reads q (right_back u s o ok f.0 q x));
       finishes = λ u s ec ok none q x. e.judged u s (o.state.checks * t_of u) ec ok.chosen (rest_there u s o ok f.0) ok.reads q (right_back u s o ok f.0 q x);
       same = e.same;

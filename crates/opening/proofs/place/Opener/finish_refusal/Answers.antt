@@ -2,5 +2,5 @@ use Rattle.std.proofs.Common.{arith}
 use Rattle.opening.proofs.Standings.{blocks_low}
 use Rattle.opening.proofs.place.Opener.finish_refusal.Goals as goal
 
-pub overflow-sub-self : goal.overflow-sub-self
-overflow-sub-self c = let a = blocks_low c.args.self.now in let b = c.args.self.now.lies.0 in omega arith
+pub overflow_sub-self : goal.overflow_sub-self
+overflow_sub-self c = let a = blocks_low c.args.self.now in let b = c.args.self.now.lies.0 in omega arith

@@ -16,12 +16,12 @@ pub returns-then-completes : goal.returns-then-completes
 returns-then-completes g c =
     let o = c.args.self.now in
     let x = c.args.piece.now in
-    let tk = took_len o x c.min-n.result c.next-end.result c.min-n.ensures c.next-end.ensures in
+    let tk = took_len o x c.min-n.result c.next_end.result c.min-n.ensures c.next_end.ensures in
     record {
-      done = put_judged o (length x) _ c.args.out.now c.complete.result c.complete.new.self c.complete.new.out c.in-default.ensures (sym c.completes.ensures ∙ c.if-completes.true) tk.1 c.complete.ensures.judged;
+      done = put_judged o (length x) _ c.args.out.now c.complete.result c.complete.new.self c.complete.new.out c.in_default.ensures (sym c.completes.ensures ∙ c.if-completes.true) tk.1 c.complete.ensures.judged;
       means = λ u s ec ok none t.
           let z = take (took o (length x)) x in
-          let bx = All-take (λ (n : ℕ). n < 256) (took o (length x)) x (All-from_get_or (λ (n : ℕ). n < 256) x 0 (λ i h. Fits-lt-pow (c.type-inv.piece i))) in
+          let bx = All-take (λ (n : ℕ). n < 256) (took o (length x)) x (All-from_get_or (λ (n : ℕ). n < 256) x 0 (λ i h. Fits-lt-pow (c.type_inv.piece i))) in
           put_told u (subst (λ (m : Meaning). Lawful m) (sym ec) (g.met.C.Cipher.lawful c.args.c.now)) s o ok z bx (completes_below o (length x) t) (completes_all o x t)
           _ c.args.out.now c.complete.result c.complete.new.self c.complete.new.out c.complete.ensures.judged
           (subst (λ (y : List ℕ). Lets u o (s ++ y) c.complete.result c.complete.new.self c.complete.new.out) tk.0 (c.complete.ensures.lets u s ec ok));
@@ -33,14 +33,14 @@ pub returns : goal.returns
 returns g c =
     let o = c.args.self.now in
     let x = c.args.piece.now in
-    let o' = c.take-in.new.self in
-    let tk = took_len o x c.min-n.result c.next-end.result c.min-n.ensures c.next-end.ensures in
-    let kept = c.take-in.ensures.kept in
+    let o' = c.take_in.new.self in
+    let tk = took_len o x c.min-n.result c.next_end.result c.min-n.ensures c.next_end.ensures in
+    let kept = c.take_in.ensures.kept in
     record {
-      done = put_more o (length x) c.min-n.result c.args.out.now _ o' c.in-default.ensures (sym c.completes.ensures ∙ c.if-completes.false) tk.2 tk.1 c.take-in.ensures.moved kept.0 kept.1;
+      done = put_more o (length x) c.min-n.result c.args.out.now _ o' c.in_default.ensures (sym c.completes.ensures ∙ c.if-completes.false) tk.2 tk.1 c.take_in.ensures.moved kept.0 kept.1;
       means = λ u s ec ok none t. absurd (true≢false (sym t ∙ sym c.completes.ensures ∙ c.if-completes.false));
       puts = λ u s ec ok none. (
-        subst (λ (z : List ℕ). Opening u (s ++ z) o') tk.0 (c.take-in.ensures.opens u s ok),
+        subst (λ (z : List ℕ). Opening u (s ++ z) o') tk.0 (c.take_in.ensures.opens u s ok),
         ap (λ (r : Reading). released u (s ++ take (took o (length x)) x) (r.checks * t_of u)) kept.1 ∙ sym (append-nil (released u (s ++ take (took o (length x)) x) (o.state.checks * t_of u))),
       );
       same = refl;

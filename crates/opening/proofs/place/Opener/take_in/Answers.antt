@@ -5,8 +5,8 @@ use Rattle.opening.proofs.Standings.{end_next, end_le}
 use Rattle.opening.proofs.Openings.{reads_more, checked_more, counted_more, bytes_more, holds_more}
 use Rattle.opening.proofs.place.Opener.take_in.Goals as goal
 
-pub invariant-of-self : goal.invariant-of-self
-invariant-of-self c =
+pub invariant_of-self : goal.invariant_of-self
+invariant_of-self c =
     let o = c.args.self.now in
     let cnt = o.stands.2 in
     let le = end_le o in
@@ -19,7 +19,7 @@ pub returns : goal.returns
 returns c =
     let o = c.args.self.now in
     let x = c.args.piece.now in
-    let bx = All-from_get_or (λ (n : ℕ). n < 256) x 0 (λ i h. Fits-lt-pow (c.type-inv.piece i)) in
+    let bx = All-from_get_or (λ (n : ℕ). n < 256) x 0 (λ i h. Fits-lt-pow (c.type_inv.piece i)) in
     let long : o.fill ≤ length o.held = search rules in
     record {
       moved = record { settings_kept = refl; shape_kept = refl; mark_kept = refl; size_kept = refl; counted = refl };
@@ -32,7 +32,7 @@ returns c =
         started = ok.started;
         reads = reads_more u s x o ok;
         checked = checked_more u s x o ok;
-        holds = holds_more u s x o ok _ long c.copy-at.ensures;
+        holds = holds_more u s x o ok _ long c.copy_at.ensures;
         laid = ok.laid;
       };
     }

@@ -10,7 +10,7 @@ pub returns : goal.returns
 returns c =
     let n = c.args.n in
     let no : (eqb n 0 || ltb 16777216 n) ≡ false = or_from (eqb n 0) (ltb 16777216 n) (ne_eqb n 0 (omega arith)) (le-ltb 16777216 n (omega arith)) in
-    let parts = c.into-parts.ensures in
+    let parts = c.into_parts.ensures in
     let base = ap (λ p. value p.1) parts in
     record {
       answer = sym (cond-false (eqb n 0 || ltb 16777216 n) (Err MessageLength) (Ok tt) no);

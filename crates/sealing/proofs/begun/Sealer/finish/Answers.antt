@@ -16,8 +16,8 @@ returns-then-out-tag g c =
     let s = c.args.self in
     let t = s.settings.interval in
     let f = s.settings.short_tag in
-    let tag = c.tag-length-tag.result in
-    let z : tag ≡ cond f (s.n - 16 * sealed_blocks s.n s.n) 16 = c.tag-length-tag.ensures ∙ ap (λ (i : ℕ). cond f (s.n - 16 * i) 16) c.sealed-blocks.ensures in
+    let tag = c.tag_length-tag.result in
+    let z : tag ≡ cond f (s.n - 16 * sealed_blocks s.n s.n) 16 = c.tag_length-tag.ensures ∙ ap (λ (i : ℕ). cond f (s.n - 16 * i) 16) c.sealed_blocks.ensures in
     record {
       answer = finish_refused t s.n s.k (length c.args.out.now) (16 + tag) f c.if-self.false (rest_is t s.n tag f s.ok.0 z) c.if-out-tag.true;
       effect = (refl, refl);
@@ -25,11 +25,11 @@ returns-then-out-tag g c =
       same = refl;
     }
 
-pub write-end-requires : goal.write-end-requires
-write-end-requires g c =
+pub write_end-requires : goal.write_end-requires
+write_end-requires g c =
     let s = c.args.self in
-    let q = c.sealed-blocks.result in
-    (tag_le s.settings.short_tag (s.n - 16 * q) c.tag-length-tag.result (omega arith) c.tag-length-tag.ensures, c.if-out-tag.false)
+    let q = c.sealed_blocks.result in
+    (tag_le s.settings.short_tag (s.n - 16 * q) c.tag_length-tag.result (omega arith) c.tag_length-tag.ensures, c.if-out-tag.false)
 
 pub returns : goal.returns
 returns g c =
@@ -38,24 +38,24 @@ returns g c =
     let t = s.settings.interval in
     let f = s.settings.short_tag in
     let p = sealed_blocks n n in
-    let tag = c.tag-length-tag.result in
-    let new = c.write-end.new.out in
-    let z : tag ≡ cond f (n - 16 * p) 16 = c.tag-length-tag.ensures ∙ ap (λ (i : ℕ). cond f (n - 16 * i) 16) c.sealed-blocks.ensures in
+    let tag = c.tag_length-tag.result in
+    let new = c.write_end.new.out in
+    let z : tag ≡ cond f (n - 16 * p) 16 = c.tag_length-tag.ensures ∙ ap (λ (i : ℕ). cond f (n - 16 * i) 16) c.sealed_blocks.ensures in
     let full : s.k ≡ n = omega arith in
     let ep : p ≡ (n - 1) / 16 = omega arith in
-    let held : n - 16 * c.sealed-blocks.result ≡ n - 16 * p = ap (λ (i : ℕ). n - 16 * i) c.sealed-blocks.ensures in
+    let held : n - 16 * c.sealed_blocks.result ≡ n - 16 * p = ap (λ (i : ℕ). n - 16 * i) c.sealed_blocks.ensures in
     record {
-      answer = finish_answered t n s.k (length c.args.out.now) (16 + tag) f c.of-length-mark.result c.if-self.false (rest_is t n tag f s.ok.0 z) c.if-out-tag.false c.of-length-mark.ensures;
-      effect = c.write-end.ensures.back;
+      answer = finish_answered t n s.k (length c.args.out.now) (16 + tag) f c.of_length-mark.result c.if-self.false (rest_is t n tag f s.ok.0 z) c.if-out-tag.false c.of_length-mark.ensures;
+      effect = c.write_end.ensures.back;
       bytes = λ u acc ec o.
           let en : length acc ≡ n = sym o.size ∙ full in
           let runs : Runs u acc p s.running = subst (λ (i : ℕ). Runs u acc (sealed_blocks n i) s.running) full o.runs in
-          let k = marked_is acc c.of-length-mark.result (c.of-length-mark.ensures ∙ ap (λ (i : ℕ). mark_of (cond (eqb (i % 16) 0) 1 0)) (sym en)) in
-          let b = last_held u acc s (n - 16 * c.sealed-blocks.result) (value c.load-last.result) o full held c.load-last.ensures in
-          let end = c.write-end.ensures.ends u acc p ec runs k b in
+          let k = marked_is acc c.of_length-mark.result (c.of_length-mark.ensures ∙ ap (λ (i : ℕ). mark_of (cond (eqb (i % 16) 0) 1 0)) (sym en)) in
+          let b = last_held u acc s (n - 16 * c.sealed_blocks.result) (value c.load-last.result) o full held c.load-last.ensures in
+          let end = c.write_end.ensures.ends u acc p ec runs k b in
           let whole = stream_is u acc s.settings n p o.chosen en s.ok.0 ep in
           let w = w_at u (inner_x u acc) p in
           let a = sum_to (block_at acc) (suc p) in
           joined_end (places u (inner_x u acc) p) (bytes_of (last_c u (mark acc) p w a)) (bytes_of (last_tag u (mark acc) p w a)) (stream u acc) (take (16 + tag) new) tag (cond f (n - 16 * p) 16) whole z end;
-      same = c.write-end.ensures.same;
+      same = c.write_end.ensures.same;
     }

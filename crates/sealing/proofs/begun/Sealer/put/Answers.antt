@@ -5,27 +5,27 @@ use Rattle.sealing.specs.Sealer.{front}
 use Rattle.sealing.proofs.Parts.{handed_le, le_by, put_answered}
 use Rattle.sealing.proofs.begun.Sealer.put.Goals as goal
 
-pub overflow-sub-size : goal.overflow-sub-size
-overflow-sub-size g c =
+pub overflow_sub-size : goal.overflow_sub-size
+overflow_sub-size g c =
     let s = c.args.self.now in
-    le_by _ _ _ _ c.handed-over.ensures c.handed-over-after.ensures (handed_le s.settings.interval s.n s.k (s.k + length c.args.piece.now) (omega arith))
+    le_by _ _ _ _ c.handed_over.ensures c.handed_over-after.ensures (handed_le s.settings.interval s.n s.k (s.k + length c.args.piece.now) (omega arith))
 
 pub returns : goal.returns
 returns g c =
     let s = c.args.self.now in
     let piece = c.args.piece.now in
     let old = c.args.out.now in
-    let new = c.push-all.new.out in
+    let new = c.push_all.new.out in
     let t = s.settings.interval in
-    let w = c.handed-over-after.result - c.handed-over.result in
-    let after = c.handed-over-after.ensures in
-    let before = c.handed-over.ensures in
+    let w = c.handed_over-after.result - c.handed_over.result in
+    let after = c.handed_over-after.ensures in
+    let before = c.handed_over.ensures in
     let e : w ≡ handed_over t s.n (s.k + length piece) - handed_over t s.n s.k = cc in
     record {
       answer = put_answered t s.n s.k (length piece) (length old) w c.if-piece-self.false e c.if-out-size.false;
-      effect = (c.push-all.ensures.carried, subst (λ (n : ℕ). drop n new ≡ drop n old) (sym e) c.push-all.ensures.back);
+      effect = (c.push_all.ensures.carried, subst (λ (n : ℕ). drop n new ≡ drop n old) (sym e) c.push_all.ensures.back);
       bytes = λ u acc ec o.
-          let did = c.push-all.ensures.grows u acc ec o in
+          let did = c.push_all.ensures.grows u acc ec o in
           (did.0, did.1 (front u acc s) (sym (append-nil (front u acc s))) ∙ ap (λ (n : ℕ). front u acc s ++ take n new) (sym e));
-      same = c.push-all.ensures.same;
+      same = c.push_all.ensures.same;
     }

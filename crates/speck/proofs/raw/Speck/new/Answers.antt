@@ -10,7 +10,7 @@ pub loop-i-preserved : goal.loop-i-preserved
 unfolding key_words rounds
 loop-i-preserved c =
     let i = c.loop-i.i in
-    let keys = c.loop-i.round-keys in
+    let keys = c.loop-i.round_keys in
     let inv = c.loop-i.invariant in (
       length-set _ _ _ ∙ inv.0,
       rw add-one (cc),

@@ -3,4 +3,4 @@ use Rattle.speck.specs.Speck.{key_words, round_key}
 use Rattle.speck.proofs.raw.Speck.new.Given as goal
 
 abbrev pub invariant-loop-i : goal.invariant-loop-i
-invariant-loop-i l = (length l.round-keys ≡ 32) × (l.words ≡ key_words l.initial.words l.i) × ((j : ℕ) → j < l.i → get_or l.round-keys j 0 ≡ round_key l.initial.words j)
+invariant-loop-i l = (length l.round_keys ≡ 32) × (l.words ≡ key_words l.initial.words l.i) × ((j : ℕ) → j < l.i → get_or l.round_keys j 0 ≡ round_key l.initial.words j)
