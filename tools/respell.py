@@ -100,7 +100,7 @@ def table(root):
 
 
 # A name that Rattle makes of a clause, a step or a goal keeps its spelling: right behind c. and goal., and in lists of Goals and Given.
-HEADS = re.compile(r"(?:^|[\s(){};,])(?:c|g|l|goal|need)\.$")
+HEADS = re.compile(r"(?:^|[\s(){};,])(?:c|goal|need)\.$")
 
 
 def turn_antt(text, rows, path):

@@ -42,7 +42,7 @@ invariant_of-s-2 g c =
     let more = one_more s.n s.k size _ _ c.sealed_blocks-q.ensures c.sealed_blocks.ensures c.if-sealed_blocks-q.false c.requires.1.0 in
     let since = since_is (sealed_blocks s.n s.k) t s.running.since s.ok.3 in
     let n = c.seal_block-end.ensures.counts.1 in
-    ((s.ok.0, s.ok.1, c.requires.0, more.0 ∙ since ∙ ap (λ (i : ℕ). i / t * t + cond (eqb (s.running.since + 1) t) 0 (s.running.since + 1)) (sym more.0) ∙ ap (λ (i : ℕ). sealed_blocks s.n (s.k + size) / t * t + i) (sym n)), tt)
+    record { ok = (s.ok.0, s.ok.1, c.requires.0, more.0 ∙ since ∙ ap (λ (i : ℕ). i / t * t + cond (eqb (s.running.since + 1) t) 0 (s.running.since + 1)) (sym more.0) ∙ ap (λ (i : ℕ). sealed_blocks s.n (s.k + size) / t * t + i) (sym n)) }
 
 pub returns : goal.returns
 returns g c =

@@ -8,7 +8,7 @@ pub invariant_of-result : goal.invariant_of-result
 invariant_of-result c =
     let key = c.args.key.now in
     let bytes : Bytes key = All-from_get_or _ key 0 (search rules) in
-    (schedule_kept key c.expand.result (search rules) bytes c.expand.ensures, tt)
+    record { ok = schedule_kept key c.expand.result (search rules) bytes c.expand.ensures }
 
 pub returns : goal.returns
 returns c = ap of_bytes (schedule_key c.args.key.now c.expand.result c.expand.ensures)

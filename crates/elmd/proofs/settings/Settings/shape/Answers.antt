@@ -22,7 +22,7 @@ returns-then-blocks-gt-BLOCKS_MOST c = (
       let a = g.among in
       let e = c.in-Some.ensures in
       let h : c.in-Some.checks ≡ checks u (blocks_of u c.args.stream_length) = cc in
-      let b = g.blocks-are in
+      let b = g.blocks_are in
       let f = g.few in
       omega arith,
 )

@@ -12,7 +12,7 @@ invariant_of-result c =
     let ks = c.expand-keys.result in
     let bytes : Bytes key = All-from_get_or _ key 0 (search rules) in
     let e = schedule_made key ks _ _ (search rules) bytes c.expand-keys.ensures c.split.ensures c.from_bytes.ensures in
-    (schedule_kept key (spreads ks) (search rules) bytes e, (c.unmix_all-inv_keys.ensures, tt))
+    record { expanded = schedule_kept key (spreads ks) (search rules) bytes e; unmixed = c.unmix_all-inv_keys.ensures }
 
 pub returns : goal.returns
 returns c =

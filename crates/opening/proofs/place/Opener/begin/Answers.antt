@@ -17,10 +17,12 @@ invariant_of-place c =
     let u = plain_frame s in
     let laid = c.in-Ok.ensures u refl in
     let t : 1 ≤ s.interval = (let z = c.if-settings-eq0.false in omega (arith, z)) in
-    let m = zero-mul (s.interval + 1) in (
-      (laid.some, laid.most, laid.h_is ∙ ap (λ (n : ℕ). pred c.in-Ok.shape.blocks / n) (interval_is u s refl), laid.size),
-      ((laid.tag_some, laid.tag_most, t), ((refl, omega arith, omega arith), ((omega arith, λ _. omega arith), tt))),
-    )
+    let m = zero-mul (s.interval + 1) in record {
+      lies = (laid.some, laid.most, laid.h_is ∙ ap (λ (n : ℕ). pred c.in-Ok.shape.blocks / n) (interval_is u s refl), laid.size);
+      tagged = (laid.tag_some, laid.tag_most, t);
+      stands = (refl, omega arith, omega arith);
+      within = (omega arith, λ _. omega arith);
+    }
 
 pub returns : goal.returns
 returns c =

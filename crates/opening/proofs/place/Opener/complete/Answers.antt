@@ -14,10 +14,12 @@ invariant_of-self g c =
     let n1 = n.1 in
     let lt = c.requires.0 in
     let e = c.requires.1.0 in
-    let le = end_le o in (
-      o.lies,
-      (o.tagged, ((n.0, omega arith, done_count o (length c.args.piece.now) c.judge_segment-good.result.0.checks lt e n1), ((omega arith, λ _. omega arith), tt))),
-    )
+    let le = end_le o in record {
+      lies = o.lies;
+      tagged = o.tagged;
+      stands = (n.0, omega arith, done_count o (length c.args.piece.now) c.judge_segment-good.result.0.checks lt e n1);
+      within = (omega arith, λ _. omega arith);
+    }
 
 pub invariant_of-self-else-not-good : goal.invariant_of-self-else-not-good
 invariant_of-self-else-not-good g c =
@@ -26,10 +28,12 @@ invariant_of-self-else-not-good g c =
     let n1 = n.1 in
     let lt = c.requires.0 in
     let e = c.requires.1.0 in
-    let le = end_le o in (
-      o.lies,
-      (o.tagged, ((n.0, omega arith, done_count o (length c.args.piece.now) c.judge_segment-good.result.0.checks lt e n1), ((omega arith, λ _. omega arith), tt))),
-    )
+    let le = end_le o in record {
+      lies = o.lies;
+      tagged = o.tagged;
+      stands = (n.0, omega arith, done_count o (length c.args.piece.now) c.judge_segment-good.result.0.checks lt e n1);
+      within = (omega arith, λ _. omega arith);
+    }
 
 pub returns-then-not-good : goal.returns-then-not-good
 returns-then-not-good g c =

@@ -10,10 +10,12 @@ invariant_of-self c =
     let o = c.args.self.now in
     let cnt = o.stands.2 in
     let le = end_le o in
-    let a = c.requires.0 in (
-      o.lies,
-      (o.tagged, ((o.stands.0, o.stands.1, omega arith), ((omega arith, λ lt. let e = end_next o lt in let b = c.requires.1 lt in omega arith), tt))),
-    )
+    let a = c.requires.0 in record {
+      lies = o.lies;
+      tagged = o.tagged;
+      stands = (o.stands.0, o.stands.1, omega arith);
+      within = (omega arith, λ lt. let e = end_next o lt in let b = c.requires.1 lt in omega arith);
+    }
 
 pub returns : goal.returns
 returns c =
