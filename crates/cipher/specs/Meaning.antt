@@ -1,5 +1,5 @@
 -- What a cipher means, and what each must keep. A block is a number below 2^128.
-use Rattle.std.specs.Prelude.{◌≡◌, ℕ, ◌^◌, ◌<◌, Bool, true, false, cond, bit_xor}
+use Rattle.std.specs.Prelude.{◌≡◌, ℕ, ◌^◌, ◌<◌, Bool, false, cond, bit_xor}
 
 -- E and D, the label that settings name the cipher by, and whether it is double (it then encrypts twice for L)
 pub record Meaning : Type 0 where

@@ -5,7 +5,6 @@ ghost use Rattle.std.specs.Prelude.{◌≡◌, ◌+◌, ◌%◌, ◌^◌};
 ghost use Rattle.block.specs.Value.{value, value_lt};
 ghost use Rattle.cipher.specs.Meaning.{Meaning, Lawful, base, paper};
 ghost use Rattle.cipher.specs.Paper.{paper_lawful};
-ghost use Rattle.std.proofs.Common.{rules};
 
 use block::Block;
 
@@ -79,7 +78,7 @@ pub struct Counting<C: Cipher> {
 impl<C: Cipher> Cipher for Counting<C> {
     ghost meaning = { λ s. C.Cipher.meaning s.inner };
 
-    ghost lawful = { Prim.search rules };
+    ghost lawful = { λ s. C.Cipher.lawful s.inner };
 
     fn encrypt(&mut self, b: Block) -> Block
         ensures value { value result ≡ (C.Cipher.meaning self.old.inner).enc (value b) }
