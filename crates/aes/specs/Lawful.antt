@@ -1,6 +1,6 @@
 -- AES keeps the laws of a cipher, whatever the number of rounds and under every key.
-use Rattle.std.specs.Prelude.{◌≡◌, ℕ, zero, suc, ◌*◌, ◌/◌, ◌%◌, ◌^◌, ◌<◌, Bool, List, length, get_or}
-use Rattle.std.proofs.Common.{◌∙◌, ap, mod-lt, arith, lit<}
+use Rattle.std.specs.Prelude.{◌≡◌, ℕ, zero, suc, ◌*◌, ◌/◌, ◌^◌, ◌<◌, Bool, List}
+use Rattle.std.proofs.Common.{◌∙◌, ap, mod-lt, lit<}
 use Rattle.std.proofs.ByRecursion.{All-get_or, All-from_get_or}
 use Rattle.block.specs.Bytes.{of_bytes, bytes_by, bytes_of, Bytes}
 use Rattle.block.proofs.Bytes.{bytes_number_back, number_back, length_bytes_of, of_bytes_lt}

@@ -3,7 +3,6 @@ use Rattle.std.specs.Prelude.{◌≡◌, ℕ, zero, suc, ◌+◌, ◌*◌, ◌/�
 use Rattle.std.proofs.Common.{sym, ◌∙◌, ap, zero-add, mod-lt, arith, lit<}
 use Rattle.std.proofs.Math.Path.{ap₂}
 use Rattle.std.specs.Int.Bits.{xor_lt}
-use Rattle.std.specs.List.{range_with_len}
 use Rattle.std.proofs.lemmas.List.FromFn.{fill_by_all, get_or-map-range_with_len}
 use Rattle.block.proofs.Laws.{xor_cancel}
 use Rattle.gf256.specs.Columns.{mix_matrix, inv_mix_matrix, product, dotted}

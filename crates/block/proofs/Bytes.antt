@@ -1,7 +1,7 @@
 -- The bytes of a number and the number of bytes.
 use Rattle.std.proofs.Common.{◌≡◌, ℕ, zero, suc, ◌+◌, ◌*◌, ◌/◌, ◌%◌, ◌^◌, ◌<◌, List, [], ◌∷◌, ◌++◌, length, get_or, drop, sym, refl, ap, ◌∙◌, mul_assoc, add_comm, add-one, arith, pow_pos, pow-add}
 use Rattle.std.proofs.lemmas.List.{drop_all, drop_more}
-use lib.Arith.{digits_div, digits_mod, digits_lt}
+use lib.Arith.{digits_div, digits_lt}
 use Rattle.std.proofs.lemmas.Nat.{mod-pow-add, shr-shr, shr_high}
 use Rattle.block.specs.Bytes.{of_bytes, bytes_by, bytes_of, BytesBack, NumberBack}
 use Rattle.std.specs.List.{AllByRecursion as All}

@@ -1,5 +1,5 @@
 -- The two halves of a block against its number.
-use Rattle.std.proofs.Common.{◌≡◌, ℕ, ◌+◌, ◌*◌, ◌/◌, ◌%◌, ◌^◌, ◌<◌, eqb, sym, refl, ap, ◌∙◌, ⊎_elim, arith}
+use Rattle.std.proofs.Common.{◌≡◌, ℕ, ◌+◌, ◌*◌, ◌/◌, ◌%◌, ◌^◌, ◌<◌, eqb, sym, ap, ◌∙◌, ⊎_elim, arith}
 use Rattle.std.proofs.lemmas.Bool.{cases_eq, eq-eqb, ne_eqb}
 use lib.Bits.{bit_and, bit_or, bit_xor, and_mask, or_shifted, or_shifted_r, xor_block, xor_lt, xor_self, xor_zero_r, or_add_and, and_le_l, and_le_r}
 use Rattle.block.proofs.Laws.{xor_none}

@@ -1,8 +1,8 @@
 -- Doubling and halving undo each other, and all stay below 2^128.
-use Rattle.std.proofs.Common.{◌≡◌, ℕ, ◌+◌, ◌*◌, ◌/◌, ◌%◌, ◌^◌, ◌<◌, ◌≤◌, sym, refl, ap, ◌∙◌, ⊎_elim, arith, lit<}
+use Rattle.std.proofs.Common.{◌≡◌, ℕ, ◌+◌, ◌*◌, ◌/◌, ◌%◌, ◌^◌, ◌<◌, sym, ap, ◌∙◌, ⊎_elim, arith, lit<}
 use lib.Bits.{bit_xor, xor_assoc, xor_comm, xor_self, xor_zero_r, xor_zero_l, xor_mod, xor_shr, xor_block, xor_lt}
 use Rattle.std.proofs.lemmas.Bool.{cases_lt}
-use Rattle.block.specs.Field.{dbl, half, three, five, seven, mix, unmix, Undone, Unmixed, ByCases, Linear}
+use Rattle.block.specs.Field.{dbl, half, three, five, seven, Undone, Unmixed, ByCases, Linear}
 
 pub xor_cancel : (a b : ℕ) → bit_xor (bit_xor a b) b ≡ a
 xor_cancel a b = rw (xor_assoc a b b, xor_self, xor_zero_r)

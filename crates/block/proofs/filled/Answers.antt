@@ -1,4 +1,4 @@
-use Rattle.std.proofs.Common.{◌≡◌, ap, ◌∙◌}
+use Rattle.std.proofs.Common.{ap, ◌∙◌}
 use Rattle.block.specs.Bytes.{of_bytes}
 use Rattle.block.proofs.Filling.{fill_set}
 use Rattle.block.proofs.filled.Goals as goal

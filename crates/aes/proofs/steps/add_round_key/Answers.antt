@@ -1,4 +1,4 @@
-use Rattle.std.proofs.Common.{ℕ, get_or, refl, rules}
+use Rattle.std.proofs.Common.{get_or, refl, rules}
 use lib.Bits.{bit_xor}
 use Rattle.aes.specs.Fips197.{add_round_key}
 use Rattle.aes.proofs.Filling.{filled_none, filled_more, filled_all}

@@ -1,4 +1,4 @@
-use Rattle.std.proofs.Common.{ℕ, get_or}
+use Rattle.std.proofs.Common.{get_or}
 use lib.Bits.{bit_xor}
 use Rattle.aes.proofs.Filling.{Filled}
 use Rattle.aes.proofs.steps.add_round_key.Given as goal

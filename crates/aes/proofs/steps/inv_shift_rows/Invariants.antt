@@ -1,4 +1,4 @@
-use Rattle.std.proofs.Common.{ℕ, ◌+◌, ◌*◌, ◌%◌, get_or}
+use Rattle.std.proofs.Common.{◌+◌, ◌*◌, ◌%◌, get_or}
 use Rattle.aes.proofs.Filling.{Filled}
 use Rattle.aes.proofs.steps.inv_shift_rows.Given as goal
 

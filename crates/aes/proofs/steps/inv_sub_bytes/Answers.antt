@@ -1,4 +1,4 @@
-use Rattle.std.proofs.Common.{ℕ, get_or, refl, rules}
+use Rattle.std.proofs.Common.{get_or, rules}
 use Rattle.gf256.specs.Sbox.{inv_sbox}
 use Rattle.aes.specs.Fips197.{inv_sub_bytes}
 use Rattle.aes.proofs.Filling.{filled_none, filled_more, filled_all}

@@ -1,4 +1,4 @@
-use Rattle.std.proofs.Common.{ℕ, ◌+◌, ◌*◌, ◌%◌, get_or, refl, rules}
+use Rattle.std.proofs.Common.{◌+◌, ◌*◌, ◌%◌, get_or, refl, rules}
 use Rattle.aes.specs.Fips197.{shift_rows}
 use Rattle.aes.proofs.Filling.{filled_none, filled_more, filled_all}
 use Rattle.aes.proofs.steps.shift_rows.Goals as goal

@@ -1,4 +1,4 @@
-use Rattle.std.proofs.Common.{◌∙◌, arith, rules}
+use Rattle.std.proofs.Common.{arith, rules}
 use Rattle.block.specs.Value.{value}
 use Rattle.block.proofs.Bytes.{of_bytes_listed}
 use Rattle.block.proofs.raw.Block.from_bytes.Goals as goal

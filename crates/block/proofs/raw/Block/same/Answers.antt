@@ -1,4 +1,3 @@
-use Rattle.std.proofs.Common.{◌≡◌, sym, refl, ap, ◌∙◌}
 use Rattle.block.specs.Value.{value}
 use Rattle.block.proofs.Halves.{same_halves}
 use Rattle.block.proofs.raw.Block.same.Goals as goal

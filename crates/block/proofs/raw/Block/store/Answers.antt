@@ -1,6 +1,5 @@
 use Rattle.std.proofs.Common.{arith, rules}
 use Rattle.std.proofs.lemmas.Slice.{overwrites}
-use Rattle.block.proofs.Bytes.{length_bytes_of}
 use Rattle.block.proofs.raw.Block.store.Goals as goal
 
 pub returns-then-n-at-ge16 : goal.returns-then-n-at-ge16

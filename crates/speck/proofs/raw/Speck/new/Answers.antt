@@ -1,4 +1,4 @@
-use Rattle.std.proofs.Common.{◌≡◌, ℕ, ◌<◌, ◌≢◌, length, sym, refl, ap, ◌∙◌, add-one, arith, length-set, get_or-set_other, get_or-set_same, rules, below_more}
+use Rattle.std.proofs.Common.{ℕ, ◌≢◌, refl, ap, ◌∙◌, add-one, arith, length-set, get_or-set_other, get_or-set_same, below_more}
 use Rattle.speck.specs.Speck.{key_words, rounds}
 use Rattle.speck.proofs.raw.Speck.new.Goals as goal
 
