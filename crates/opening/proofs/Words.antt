@@ -1,6 +1,7 @@
 -- What the recovered quantities say of streams and messages.
 use Rattle.std.proofs.Common.{◌≡◌, ℕ, suc, pred, ◌+◌, ◌-◌, ◌*◌, ◌/◌, ◌<◌, ◌≤◌, List, [], ◌++◌, length, take, drop, replicate, Ok, Err, Result, sym, refl, ap, ◌∙◌, subst, ⊎_elim, append_assoc, le_refl, div-mul-le_self, arith, length-append, take-append-drop, length-take}
 use lib.Bits.{bit_xor}
+use Rattle.std.proofs.ByRecursion.{All-take}
 use Rattle.std.proofs.lemmas.Nat.{mul-le}
 use Rattle.std.proofs.lemmas.List.{append-nil}
 use Rattle.block.specs.Bytes.{Bytes, bytes_of}
@@ -50,7 +51,7 @@ module _ (u : Frame) (s : List ℕ) (j : ℕ) (h : ℕ) (fits : j ≤ h / t_of u
   checks_out c k p q = (same_check k p q).0 (c k p q)
 
 front_bytes : (s : List ℕ) (n : ℕ) → Bytes s → Bytes (take n s)
-front_bytes s n b = Rattle.std.proofs.lemmas.List.Elements.All-take (λ x. x < 256) n s b
+front_bytes s n b = All-take (λ x. x < 256) n s b
 
 module _ (u : Frame) (sound : Sound u) (s : List ℕ) (bytes : Bytes s) (k : ℕ) (m : List ℕ) (hm : MessageOf u (length s) k m) where
   abbrev S : ℕ

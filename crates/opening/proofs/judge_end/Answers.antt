@@ -7,7 +7,7 @@ use Rattle.opening.proofs.Endings.{end_right, end_back}
 use Rattle.opening.proofs.judge_end.Goals as goal
 
 pub returns-in_err-k : goal.returns-in_err-k
-returns-in_err-k g c = rw c.from-residual.ensures (record {
+returns-in_err-k g c = rw c.from_residual.ensures (record {
   held = tt;
   ends = λ u str p ec es ed r q e.
       let x = c.open_last.ensures.ends u str p ec ed r in
