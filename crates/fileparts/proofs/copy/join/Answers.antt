@@ -11,7 +11,7 @@ pub loop-part-init : goal.loop-part-init
 loop-part-init c = (
   tt,
   tt,
-  subst (λ (r : Reader). Walking r.file.now (layout_of r) r 0) (sym c.into_iter-part-iterator.ensures.into_iter-gives) (begins c.args.reader c.requires.0),
+  subst (λ (r : Reader). Walking r.file.now (layout_of r) r 0) (sym c.into_iter-part-iterator.ensures.into_iter_gives) (begins c.args.reader c.requires.0),
   record { front = refl; rest = refl },
 )
 
@@ -26,7 +26,7 @@ came c =
 came_within : (c : goal.After-bytes-bytes) → c.loop-part.at + length c.bytes-bytes.result.now ≤ length c.loop-part.out
 came_within c =
     let b = (came c).walks.within in
-    let e = ap (λ (r : Reader). length r.file.now) c.into_iter-part-iterator.ensures.into_iter-gives in
+    let e = ap (λ (r : Reader). length r.file.now) c.into_iter-part-iterator.ensures.into_iter_gives in
     let p = c.requires.1 in
     let k = c.loop-part.auto.out in
     omega arith
@@ -49,4 +49,4 @@ returns c =
     let v = c.loop-part.invariant in
     let file = c.into_iter-part-iterator.result.file.now in
     let e = over file (layout_of c.into_iter-part-iterator.result) c.loop-part.at c.loop-part.part-iterator c.next.new.self v.2 c.in-None.ensures.steps in
-    subst (λ (r : Reader). Joins r.file.now c.args.out.now c.loop-part.at c.loop-part.out) c.into_iter-part-iterator.ensures.into_iter-gives (e, copied_all file c.args.out.now c.loop-part.out c.loop-part.at e v.3)
+    subst (λ (r : Reader). Joins r.file.now c.args.out.now c.loop-part.at c.loop-part.out) c.into_iter-part-iterator.ensures.into_iter_gives (e, copied_all file c.args.out.now c.loop-part.out c.loop-part.at e v.3)
