@@ -81,7 +81,7 @@ pub(crate) fn all_calls<C: Cipher>(
     )?;
     tell_sealer(rt, account, &seal_answers)?;
     tell_opener(rt, account, &open_answers)?;
-    if &sealed[0..80] != &stream || &opened[0..40] != &MESSAGE {
+    if &sealed[0..80] != stream.as_slice() || &opened[0..40] != MESSAGE.as_slice() {
         return Err(anyhow!("the parts do not come to the whole"));
     }
     println!(rt; "  both come to what was sealed whole")?;

@@ -5,7 +5,7 @@ use std::alloc::{AllocError, Global};
 pub(crate) const BLANK: u8 = 0x2e;
 
 pub(crate) fn expect(good: bool, words: &'static str) -> anyhow::Result<()> {
-    if good { Ok(()) } else { Err(words.into()) }
+    if good { Ok(()) } else { Err(anyhow::Error::msg(words)) }
 }
 
 // `n` bytes that differ from their neighbours.
