@@ -1,4 +1,4 @@
-// What the proved library exports, as `rt staticlib` builds it: a slice crosses as a pointer and a length.
+// What the proved library exports, as `rt lib` builds it in the crate's folder: a slice crosses as a pointer and a length.
 // bench.c calls the four library_* functions only; fit what stands above them to the crate's exports.
 #ifndef LIBRARY_H
 #define LIBRARY_H

@@ -23,9 +23,8 @@ fi
 
 library=
 if [ $# -gt 0 ]; then
-    (cd "$root" && rt staticlib "$1") >"$build/staticlib.log" 2>&1 || { tail "$build/staticlib.log"; exit 1; }
-    kit=$(dirname "$(dirname "$(rt doc)")")
-    library="-DLIBRARY $root/target/staticlib/lib$1.a $kit/lib/librattle_c.a"
+    (cd "$root/crates/$1" && rt lib) >"$build/lib.log" 2>&1 || { tail "$build/lib.log"; exit 1; }
+    library="-DLIBRARY $root/crates/$1/out/lib$1.a"
 fi
 ${CC:-cc} $flags "$here/bench.c" "$here/plain.c" $library -o "$build/bench"
 "$build/bench"

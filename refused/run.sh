@@ -9,19 +9,25 @@
 set -euo pipefail
 here=$(cd "$(dirname "$0")" && pwd)
 root=$(dirname "$here")
-kit=$(dirname "$(dirname "$(rt doc)")")
 work=$(mktemp -d)
 trap 'rm -rf "$work"' EXIT
 bad=0
 
-# Whether the compiler takes the program $work/main.rt over the named crates; what it says goes to $work/said.
+# Whether the compiler takes the program $work/main.rt over the named crates, in a repository of its own;
+# what it says goes to $work/said. 'rt try' proves nothing.
 compiles() { # CRATES
-    local words=("$work/main.rt" --crate-name attempt) lib uses crate
-    while IFS=: read -r lib uses; do
-        words+=(--lib "$lib:$(echo $uses | tr ' ' ,)=$kit/$lib/src/lib.rt")
-    done <"$kit/libs.txt"
-    for crate in $1; do words+=(--lib "$crate=$root/crates/$crate/src/lib.rt"); done
-    "$kit/bin/rattle-print-mir" "${words[@]}" >/dev/null 2>"$work/said"
+    local crate
+    rm -rf "$work/crates"
+    mkdir -p "$work/crates/attempt/src"
+    cp "$work/main.rt" "$work/crates/attempt/src/main.rt"
+    : >"$work/crates.txt"
+    for crate in $1; do
+        mkdir "$work/crates/$crate"
+        cp -r "$root/crates/$crate/src" "$root/crates/$crate/specs" "$root/crates/$crate/proofs" "$work/crates/$crate"
+        grep -E "^$crate( |:)" "$root/crates.txt" >>"$work/crates.txt"
+    done
+    echo "attempt: $1" >>"$work/crates.txt"
+    (cd "$work/crates/attempt" && rt try) >"$work/said" 2>&1
 }
 
 fault() { # NAME WORDS

@@ -1,5 +1,5 @@
 -- What is shown of an opening whose room is as long as the stream.
-use Rattle.std.proofs.Common.{◌≡◌, ℕ, ◌+◌, ◌-◌, ◌*◌, ◌/◌, ◌<◌, ◌≤◌, Bool, true, false, List, ◌++◌, length, take, drop, replicate, Ok, Err, Result, sym, refl, ap, ◌∙◌, subst, ⊎_elim, arith}
+use Rattle.std.proofs.Common.{◌≡◌, ℕ, ◌-◌, ◌*◌, ◌<◌, ◌≤◌, List, length, take, Ok, Err, Result, refl, ap, ◌∙◌, ⊎_elim, arith}
 use Rattle.std.proofs.lemmas.List.{take_at, length-append}
 use Rattle.std.proofs.lemmas.Bool.{cases_lt}
 use Rattle.elmd.specs.declared.refusal.Refusal.{Refusal}
@@ -7,7 +7,7 @@ use Rattle.elmd.specs.Refusals.{number}
 use Rattle.elmd.specs.Stream.{Frame}
 use Rattle.elmd.specs.Opening.{blocks_of}
 use Rattle.elmd.specs.Laws.{MessageOf}
-use Rattle.opening.specs.Open.{SealOf, NoSeal, front_answer, Opened, StreamOpened}
+use Rattle.opening.specs.Open.{NoSeal, front_answer, Opened, StreamOpened}
 use Rattle.console.specs.Replies.{bytes_line, refusal_line, OpenReply, open_line, Shown}
 
 pub room_fits : (u : Frame) (S : ℕ) → 16 * blocks_of u S ≤ S

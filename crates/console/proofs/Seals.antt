@@ -1,5 +1,5 @@
 -- What is printed of a seal's answer.
-use Rattle.std.proofs.Common.{◌≡◌, ℕ, pred, ◌-◌, ◌≤◌, Bool, true, false, cond, ◌||◌, eqb, ltb, List, ◌++◌, length, take, drop, Ok, Err, sym, refl, ap, ◌∙◌, div-le_self, arith}
+use Rattle.std.proofs.Common.{◌≡◌, ℕ, pred, ◌-◌, ◌≤◌, Bool, true, false, cond, ◌||◌, eqb, ltb, List, length, take, drop, Ok, Err, sym, refl, ap, ◌∙◌, div-le_self, arith}
 use Rattle.std.proofs.lemmas.List.{take_at}
 use Rattle.std.proofs.lemmas.Bool.{eqb-false, or_parts, le-ltb}
 use Rattle.std.proofs.lemmas.Bool.Decides.{nat_tests}

@@ -1,7 +1,7 @@
 -- A message that was read has at most 4,096 bytes.
-use Rattle.std.proofs.Common.{◌≡◌, ℕ, ◌≤◌, cond, ◌&&◌, eqb, leb, List, [], ◌∷◌, length, Some, None, Option}
+use Rattle.std.proofs.Common.{ℕ, ◌&&◌, eqb, leb, List, [], ◌∷◌, length, Some, None, Option}
 use Rattle.std.proofs.lemmas.Bool.{cond_both, and_parts, leb-true}
-use Rattle.console.specs.Commands.{Command, key, nonce, settings, heading, message, block, stream, unknown, malformed, field, sized, told, marked_command, stream_command, read_line, Sized}
+use Rattle.console.specs.Commands.{Command, key, nonce, settings, heading, message, block, stream, field, sized, told, marked_command, stream_command, read_line, Sized}
 
 told_sized : (f : List ℕ → Command) → ((b : List ℕ) → Sized (f b)) → (o : Option (List ℕ)) → Sized (told f o)
 told_sized f h None = tt

@@ -1,5 +1,5 @@
 -- The reply to a command, from what earlier lines gave.
-use Rattle.std.specs.Prelude.{◌≡◌, ℕ, ◌+◌, ◌*◌, ◌/◌, ◌%◌, cond, List, [], ◌∷◌, ◌++◌, length, take, Some, None, Ok, Err, Option, Result, ◌==◌, slice_index}
+use Rattle.std.specs.Prelude.{◌≡◌, ℕ, ◌+◌, ◌/◌, ◌%◌, cond, List, [], ◌∷◌, ◌++◌, length, take, Some, None, Ok, Err, Option, Result, ◌==◌, slice_index}
 use Rattle.block.specs.Bytes.{of_bytes, bytes_of}
 use Rattle.cipher.specs.Meaning.{Meaning, paper}
 use Rattle.speck.specs.Speck.{speck}
@@ -15,7 +15,7 @@ use Rattle.sealing.specs.Seal.{seal_answer}
 use Rattle.opening.specs.Open.{SealOf, NoSeal, front_answer, Opened}
 use Rattle.console.specs.Hex.{to_hex}
 use Rattle.console.specs.Commands.{Command, key, nonce, settings, heading, message, block, stream, unknown, malformed, read_line}
-use Rattle.console.specs.Known.{Known, nothing, after}
+use Rattle.console.specs.Known.{Known, after}
 
 -- R, a space and the number, which always has two digits
 abbrev pub refusal_line : ℕ → List ℕ

@@ -1,5 +1,5 @@
 -- What is loaded behind blocks that were changed is as it was.
-use Rattle.std.proofs.Common.{◌≡◌, ℕ, ◌+◌, ◌*◌, ◌≤◌, List, length, take, drop, sym, ap, ◌∙◌, arith, length-drop, length-take}
+use Rattle.std.proofs.Common.{◌≡◌, ℕ, ◌+◌, ◌*◌, ◌≤◌, List, length, take, drop, ap, ◌∙◌, arith, length-drop, length-take}
 use Rattle.block.specs.Bytes.{of_bytes, padded}
 use Rattle.block.proofs.Filling.{padded_whole}
 use Rattle.elmd.specs.Opening.{block_in}

@@ -1,8 +1,8 @@
 -- Rounds on four words against the rounds on their sixteen bytes.
-use Rattle.std.proofs.Common.{◌≡◌, ℕ, ◌+◌, ◌<◌, List, [], ◌∷◌, ◌++◌, get_or, sym, refl, ap, ◌∙◌, ap₂, zero-add}
+use Rattle.std.proofs.Common.{◌≡◌, ℕ, ◌<◌, List, [], ◌∷◌, ◌++◌, get_or, sym, refl, ap, ◌∙◌, ap₂, zero-add}
 use lib.Bits.{bit_xor}
 use Rattle.std.proofs.lemmas.List.FromFn.{get_or-map-range_with_len}
-use Rattle.gf256.specs.Columns.{mix_matrix, inv_mix_matrix, sum4, dotted, product}
+use Rattle.gf256.specs.Columns.{mix_matrix, inv_mix_matrix, dotted, product}
 use Rattle.gf256.specs.Field.{gmul}
 use Rattle.gf256.specs.Sbox.{sbox, inv_sbox}
 use Rattle.gf256.proofs.Linear.{cross, gmul_xor}

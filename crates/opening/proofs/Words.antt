@@ -1,15 +1,15 @@
 -- What the recovered quantities say of streams and messages.
-use Rattle.std.proofs.Common.{◌≡◌, ℕ, suc, pred, ◌+◌, ◌-◌, ◌*◌, ◌/◌, ◌<◌, ◌≤◌, List, [], ◌++◌, length, take, drop, replicate, Ok, Err, Result, sym, refl, ap, ◌∙◌, subst, ⊎_elim, append_assoc, le_refl, div-mul-le_self, arith, length-append, take-append-drop, length-take}
+use Rattle.std.proofs.Common.{◌≡◌, ℕ, pred, ◌+◌, ◌-◌, ◌*◌, ◌/◌, ◌<◌, ◌≤◌, List, [], ◌++◌, length, take, drop, replicate, Ok, Err, Result, sym, refl, ap, ◌∙◌, subst, ⊎_elim, append_assoc, le_refl, arith, length-append, take-append-drop, length-take}
 use lib.Bits.{bit_xor}
 use Rattle.std.proofs.ByRecursion.{All-take}
 use Rattle.std.proofs.lemmas.Nat.{mul-le}
 use Rattle.std.proofs.lemmas.List.{append-nil}
-use Rattle.block.specs.Bytes.{Bytes, bytes_of}
+use Rattle.block.specs.Bytes.{Bytes}
 use Rattle.block.proofs.Bytes.{length_bytes_of}
 use Rattle.elmd.specs.declared.refusal.Refusal.{Refusal}
 use Rattle.elmd.specs.declared.refusal.Refusal.TheVariants.{OtherLabel, Interval, CheckLength, TagLength, SpareByte, HeadingLength, MessageLength, PieceTooLong, OutputShort, BytesMissing, NoChecks, StreamLength, Over, Spoiled, StreamComplete, RoomShort, BadCheck, StreamMissing, BadTag}
-use Rattle.elmd.specs.Stream.{Frame, t_of, blocks, checks, check_spot, tag_spot, tag_size, out_mask, stream}
-use Rattle.elmd.specs.Opening.{block_in, blocks_of, w_r, Check, Checks, Right, opened, released, last_r}
+use Rattle.elmd.specs.Stream.{Frame, t_of, blocks, checks, check_spot, tag_spot, out_mask, stream}
+use Rattle.elmd.specs.Opening.{block_in, blocks_of, w_r, Check, Checks, Right, opened}
 use Rattle.elmd.specs.Laws.{Begins, Sound, MessageOf, Extends}
 use Rattle.elmd.proofs.Quo.{quo_back, quo_fits}
 use Rattle.elmd.proofs.Recover.{front_block}
@@ -17,8 +17,8 @@ use Rattle.elmd.proofs.Steps.{growing}
 use Rattle.elmd.proofs.Injective.{injectivity, same_l}
 use Rattle.elmd.proofs.Extend.{extension, checks_hold, message_length}
 use Rattle.elmd.proofs.Finish.{opening, finish, mark_cases}
-use Rattle.opening.specs.Judging.{Cause, FirstBad, BadEnd, Good, Judged}
-use Rattle.opening.specs.Open.{SealOf, through, FirstBadCheck, NoSeal, Judgement}
+use Rattle.opening.specs.Judging.{Cause, FirstBad, BadEnd, Judged}
+use Rattle.opening.specs.Open.{SealOf, through, FirstBadCheck, Judgement}
 use Rattle.opening.proofs.Parts.{cause_map}
 
 -- a check sees only the bytes through it

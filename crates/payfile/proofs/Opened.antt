@@ -1,7 +1,7 @@
 -- What an opened file says of files.
-use Rattle.std.proofs.Common.{◌≡◌, ℕ, ◌+◌, ◌-◌, ◌*◌, ◌^◌, ◌<◌, ◌≤◌, Bool, true, false, cond, not, eqb, ltb, List, [], ◌∷◌, ◌++◌, length, get_or, take, drop, replicate, Ok, Err, Result, sym, refl, ap, ◌∙◌, subst, ⊎_elim, arith, length-drop, length-take}
+use Rattle.std.proofs.Common.{◌≡◌, ℕ, ◌+◌, ◌-◌, ◌*◌, ◌<◌, ◌≤◌, Bool, true, false, cond, ltb, List, ◌++◌, length, get_or, take, drop, replicate, Ok, Err, Result, sym, refl, ap, ◌∙◌, subst, ⊎_elim, arith, length-drop, length-take}
 use Rattle.std.proofs.lemmas.List.{take_at}
-use Rattle.std.proofs.lemmas.Bool.{le-ltb, eq-eqb}
+use Rattle.std.proofs.lemmas.Bool.{le-ltb}
 use Rattle.std.proofs.lemmas.Bool.Decides.{nat_tests}
 use Rattle.block.specs.Bytes.{Bytes}
 use Rattle.cipher.specs.Meaning.{Meaning}
@@ -16,7 +16,7 @@ use Rattle.elmd.proofs.Lengths.{lengths}
 use Rattle.opening.specs.Open as seal
 use Rattle.opening.specs.Open.{SealOf, StreamOpened, Opened}
 use Rattle.payfile.specs.declared.refusal.FileRefusal.{FileRefusal}
-use Rattle.payfile.specs.Refusals.{faulty, after, of_seal}
+use Rattle.payfile.specs.Refusals.{after, of_seal}
 use Rattle.payfile.specs.Layout.{file_of, pay_file, frame_in, stream_in, settings_in, mark_in, nonce_in, heading_in, heading_size, stream_size, front_answer, label_answer}
 use Rattle.payfile.specs.Write.{message_answer, sealed_answer, written}
 use Rattle.payfile.specs.Open.{file_answer, FileOpened, Filed, let_out, Exactly, GivenBack}

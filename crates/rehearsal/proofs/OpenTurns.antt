@@ -1,12 +1,12 @@
 -- One call on an opener.
-use Rattle.std.proofs.Common.{◌≡◌, ℕ, suc, pred, ◌+◌, ◌-◌, ◌*◌, ◌/◌, ◌<◌, ◌≤◌, min, Bool, true, false, cond, ◌&&◌, eqb, ltb, leb, ◌⊎◌, List, [], ◌∷◌, ◌++◌, length, take, drop, Some, None, Ok, Err, Option, Result, sym, refl, ap, ◌∙◌, subst, inl, inr, ⊎_elim, le_refl, suc-mul, add-one, arith, length-append, length-take}
+use Rattle.std.proofs.Common.{◌≡◌, ℕ, suc, ◌+◌, ◌-◌, ◌*◌, ◌<◌, ◌≤◌, min, Bool, true, false, cond, ◌&&◌, ltb, leb, List, [], ◌∷◌, ◌++◌, length, take, drop, Some, None, Ok, Err, Option, Result, sym, refl, ap, ◌∙◌, subst, inl, inr, ⊎_elim, le_refl, suc-mul, add-one, arith, length-append, length-take}
 use Rattle.std.proofs.lemmas.List.{append-nil, length-take-le}
 use Rattle.std.proofs.lemmas.Bool.{cases_lt, cond-true, cond-false, lt-ltb, le-ltb, true≢false}
 use Rattle.cipher.specs.Meaning.{Meaning}
 use Rattle.elmd.specs.declared.refusal.Refusal.{Refusal}
 use Rattle.elmd.specs.declared.refusal.Refusal.TheVariants as why
 use Rattle.elmd.specs.Refusals.{mark_number}
-use Rattle.elmd.specs.Stream.{Frame, t_of, checks, blocks, stream}
+use Rattle.elmd.specs.Stream.{Frame, t_of, checks, stream}
 use Rattle.elmd.specs.Opening.{blocks_of, released, Check, Checks, Right, opened}
 use Rattle.elmd.specs.Laws.{Begins, Sound, MessageOf, Extends, Sealed}
 use Rattle.elmd.proofs.Extend.{extension, checks_hold}

@@ -1,10 +1,10 @@
 -- From what a driven sealer or opener does to what its side of a rehearsal comes to.
-use Rattle.std.proofs.Common.{◌≡◌, ℕ, ◌≤◌, List, Ok, Err, Result, sym, refl, ap, ◌∙◌, ⊎_elim, arith}
+use Rattle.std.proofs.Common.{◌≡◌, ℕ, List, Ok, Err, Result, sym, refl, ap, ◌∙◌, ⊎_elim, arith}
 use Rattle.cipher.specs.Meaning.{Meaning}
 use Rattle.elmd.specs.declared.refusal.Refusal.{Refusal}
 use Rattle.elmd.specs.declared.state.ClosedHeading.{ClosedHeading}
 use Rattle.elmd.specs.Refusals.{told}
-use Rattle.elmd.specs.Stream.{Frame, t_of}
+use Rattle.elmd.specs.Stream.{Frame}
 use Rattle.elmd.specs.Heading.{Closes}
 use Rattle.elmd.proofs.Counts.{interval_is}
 use Rattle.sealing.specs.Handing.{begin_answer}

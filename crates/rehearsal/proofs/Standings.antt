@@ -1,9 +1,9 @@
 -- The numbers of an opener, by the bytes that it has taken.
-use Rattle.std.proofs.Common.{◌≡◌, ℕ, suc, pred, ◌+◌, ◌-◌, ◌*◌, ◌/◌, ◌<◌, ◌≤◌, min, List, [], ◌++◌, length, take, drop, sym, refl, ap, ◌∙◌, subst, ⊎_elim, mul-div_cancel, mul_left_comm, arith, take-append-drop}
+use Rattle.std.proofs.Common.{◌≡◌, ℕ, pred, ◌+◌, ◌*◌, ◌/◌, ◌<◌, ◌≤◌, List, [], ◌++◌, length, drop, sym, ap, ◌∙◌, subst, ⊎_elim, mul-div_cancel, mul_left_comm, arith, take-append-drop}
 use Rattle.std.proofs.lemmas.Nat.{div-mul-add}
 use Rattle.std.proofs.lemmas.Bool.{cases_lt}
 use Rattle.elmd.specs.Refusals.{mark_number}
-use Rattle.elmd.specs.Stream.{Frame, t_of, checks, blocks, stream}
+use Rattle.elmd.specs.Stream.{Frame, t_of, checks, stream}
 use Rattle.elmd.specs.Opening.{blocks_of, released}
 use Rattle.elmd.specs.Laws.{Begins, Sound, MessageOf}
 use Rattle.elmd.specs.Shape.{Laid}
@@ -12,8 +12,8 @@ use Rattle.elmd.proofs.Injective.{same_l}
 use Rattle.elmd.proofs.Extend.{released_is}
 use Rattle.opening.specs.declared.place.Opener.{Opener}
 use Rattle.opening.specs.Opener.{Opening}
-use Rattle.opening.proofs.Openings.{t_is, t_pos, back, spot, spot_le}
-use Rattle.rehearsal.specs.OpenLaw.{in_all, among, Progress, Released}
+use Rattle.opening.proofs.Openings.{t_is, back, spot, spot_le}
+use Rattle.rehearsal.specs.OpenLaw.{in_all, among}
 
 module _ (u : Frame) (S k : ℕ) (s : List ℕ) (o : Opener) (ok : Opening u s o) (es : o.size ≡ S) (ek : mark_number o.mark ≡ k) where
   abbrev j : ℕ

@@ -1,7 +1,7 @@
 -- A part of an output.
-use Rattle.std.proofs.Common.{◌≡◌, ℕ, ◌+◌, ◌-◌, ◌≤◌, List, [], ◌++◌, length, take, drop, sym, refl, ap, ◌∙◌, subst, append_assoc, arith}
+use Rattle.std.proofs.Common.{◌≡◌, ℕ, ◌+◌, ◌≤◌, List, ◌++◌, length, take, drop, sym, ap, ◌∙◌, append_assoc, arith}
 use borrow.Rule.Slice.PartMut.{put_mid}
-use Rattle.std.proofs.lemmas.List.{length-append, length-drop, length-take, length-take-le, take_at, drop_at, drop-append-le, take-append-drop, drop-drop, take-append-le}
+use Rattle.std.proofs.lemmas.List.{length-append, length-drop, length-take, length-take-le, take_at, drop_at, drop-append-le, take-append-drop, drop-drop}
 use Rattle.rehearsal.specs.OpenLaw.{Within, Wrote}
 
 module _ (out win' : List ℕ) (pos k n : ℕ) (h : pos + k ≤ length out) (len : length win' ≡ length (take k (drop pos out))) (ok : Within n (take k (drop pos out)) win') where

@@ -1,5 +1,5 @@
 -- What a rehearsal comes to, on both sides.
-use Rattle.std.specs.Prelude.{◌≡◌, ℕ, ◌≤◌, min, List, length, take, Ok, Err, Result}
+use Rattle.std.specs.Prelude.{◌≡◌, ℕ, ◌≤◌, List, take, Ok, Err, Result}
 use Rattle.elmd.specs.declared.refusal.Refusal.{Refusal}
 use Rattle.elmd.specs.declared.refusal.Refusal.TheVariants.{NoChecks, StreamLength}
 use Rattle.elmd.specs.Stream.{Frame, t_of}

@@ -5,7 +5,11 @@ use std::alloc::{AllocError, Global};
 pub(crate) const BLANK: u8 = 0x2e;
 
 pub(crate) fn expect(good: bool, words: &'static str) -> anyhow::Result<()> {
-    if good { Ok(()) } else { Err(anyhow::Error::msg(words)) }
+    if good {
+        Ok(())
+    } else {
+        Err(anyhow::Error::msg(words))
+    }
 }
 
 // `n` bytes that differ from their neighbours.

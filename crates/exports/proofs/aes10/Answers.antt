@@ -1,4 +1,4 @@
-use Rattle.std.proofs.Common.{ℕ, List, sym, ap, ◌∙◌}
+use Rattle.std.proofs.Common.{ℕ, List, ap, ◌∙◌}
 use Rattle.block.specs.Bytes.{of_bytes}
 use Rattle.block.specs.Value.{value, value_lt}
 use Rattle.block.proofs.Bytes.{bytes_number_back}

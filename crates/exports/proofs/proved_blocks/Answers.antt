@@ -1,4 +1,4 @@
-use Rattle.std.proofs.Common.{◌≡◌, ℕ, not, eqb, List, sym, refl, ap, ◌∙◌, subst, arith}
+use Rattle.std.proofs.Common.{ℕ, not, eqb, List, sym, ap, ◌∙◌}
 use Rattle.cipher.specs.Meaning.{Meaning}
 use Rattle.speck.specs.Speck.{speck}
 use Rattle.exports.specs.Exports.{key_of, all_blocks}

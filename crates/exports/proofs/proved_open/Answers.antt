@@ -1,4 +1,4 @@
-use Rattle.std.proofs.Common.{◌≡◌, sym, refl, ap, ◌∙◌, arith}
+use Rattle.std.proofs.Common.{ap, ◌∙◌, arith}
 use Rattle.speck.specs.Speck.{speck}
 use Rattle.exports.proofs.Choices.{mark_read, told_so}
 use Rattle.exports.proofs.proved_open.Goals as goal

@@ -1,7 +1,7 @@
-use Rattle.std.proofs.Common.{◌≡◌, ℕ, suc, ◌+◌, ◌*◌, ◌/◌, ◌≤◌, List, ◌++◌, length, take, drop, sym, refl, ap, ◌∙◌, add-one, arith, take-append-drop, rules}
+use Rattle.std.proofs.Common.{◌≡◌, ℕ, suc, ◌+◌, ◌*◌, ◌/◌, ◌≤◌, List, ◌++◌, length, take, drop, sym, refl, ap, ◌∙◌, add-one, arith, take-append-drop}
 use Rattle.std.proofs.lemmas.List.{drop-drop}
 use Rattle.block.specs.Value.{value}
-use Rattle.block.specs.Bytes.{bytes_of, of_bytes, padded}
+use Rattle.block.specs.Bytes.{bytes_of}
 use Rattle.cipher.specs.Meaning.{Meaning}
 use Rattle.elmd.specs.Opening.{block_in}
 use Rattle.exports.specs.Exports.{turned, each_block}

@@ -1,4 +1,4 @@
-use Rattle.std.proofs.Common.{◌≡◌, ℕ, pred, ◌-◌, ◌*◌, ◌/◌, ◌^◌, ◌<◌, List, [], ◌++◌, length, take, drop, Ok, Err, Result, sym, refl, ap, ◌∙◌, subst, arith, length-take, rules}
+use Rattle.std.proofs.Common.{◌≡◌, ℕ, pred, ◌-◌, ◌*◌, ◌/◌, ◌^◌, ◌<◌, List, [], ◌++◌, length, drop, Ok, Err, Result, sym, refl, ap, ◌∙◌, subst, arith, length-take}
 use mir.Facts.{Fits-lt-pow}
 use Rattle.std.proofs.ByRecursion.{All-from_get_or}
 use Rattle.block.specs.Value.{value, value_lt}
@@ -6,8 +6,7 @@ use Rattle.cipher.specs.Meaning.{Meaning, Lawful}
 use Rattle.elmd.specs.declared.settings.Settings.{Settings}
 use Rattle.elmd.specs.Settings.{settings_bytes}
 use Rattle.elmd.specs.Refusals.{mark_number}
-use Rattle.elmd.specs.Heading.{frame_of, Closes}
-use Rattle.elmd.specs.Stream.{Frame}
+use Rattle.elmd.specs.Heading.{frame_of}
 use Rattle.elmd.specs.Opening.{blocks_of}
 use Rattle.elmd.specs.declared.refusal.Refusal.{Refusal}
 use Rattle.elmd.specs.Laws.{Sound, MessageOf}

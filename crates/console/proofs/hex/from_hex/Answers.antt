@@ -1,4 +1,4 @@
-use Rattle.std.proofs.Common.{◌≡◌, ◌+◌, ◌<◌, ◌≤◌, length, drop, vec_items, sym, ap, ◌∙◌, arith}
+use Rattle.std.proofs.Common.{◌≡◌, ◌+◌, ◌≤◌, length, drop, vec_items, sym, ap, ◌∙◌, arith}
 use Rattle.console.specs.Hex.{from_hex}
 use Rattle.console.proofs.Hexes.{behind, hex_step, hex_bad, hex_odd, hex_end}
 use Rattle.console.proofs.hex.from_hex.Goals as goal

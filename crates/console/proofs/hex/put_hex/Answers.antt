@@ -1,6 +1,5 @@
-use Rattle.std.proofs.Common.{◌<◌, ◌∷◌, length, vec_items, arith}
+use Rattle.std.proofs.Common.{◌<◌, length, vec_items, arith}
 use Rattle.std.proofs.lemmas.List.{take_all}
-use Rattle.std.proofs.lemmas.Slice.{pushed}
 use Rattle.console.proofs.Hexes.{hex_more}
 use Rattle.console.proofs.hex.put_hex.Goals as goal
 

@@ -1,4 +1,4 @@
-use Rattle.std.proofs.Common.{sym, arith}
+use Rattle.std.proofs.Common.{arith}
 use Rattle.console.proofs.Splits.{line_from}
 use Rattle.console.proofs.reading.line_end.Goals as goal
 

@@ -1,5 +1,4 @@
-use Rattle.std.proofs.Common.{◌≡◌, ◌+◌, ◌*◌, ◌%◌, ◌^◌, ◌<◌, get_or, ◌∙◌, arith, rules}
-use lib.Bits.{bit_or, or_shifted}
+use Rattle.std.proofs.Common.{◌^◌, ◌<◌, get_or, ◌∙◌, rules}
 use Rattle.fast_aes.proofs.Halving.{join_is, high_low}
 use Rattle.fast_aes.proofs.rounds.join.Goals as goal
 

@@ -1,7 +1,6 @@
-use Rattle.std.proofs.Common.{◌≡◌, [], ◌∷◌, refl, ◌∙◌, ap₂, rules}
+use Rattle.std.proofs.Common.{rules}
 use lib.Bits.{and_mask}
 use Rattle.block.specs.Value.{value}
-use Rattle.fast_aes.specs.Words.{spread}
 use Rattle.fast_aes.proofs.Halving.{split_is}
 use Rattle.fast_aes.proofs.rounds.split.Goals as goal
 

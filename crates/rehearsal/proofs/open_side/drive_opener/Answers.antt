@@ -1,5 +1,5 @@
-use Rattle.std.proofs.Common.{◌≡◌, ℕ, ◌*◌, ◌^◌, ◌<◌, List, [], length, take, sym, refl, ap, ◌∙◌, subst, zero-mul}
-use Rattle.block.specs.Value.{value, value_lt}
+use Rattle.std.proofs.Common.{◌≡◌, ℕ, ◌*◌, ◌^◌, ◌<◌, [], length, take, sym, refl, ap, ◌∙◌, subst, zero-mul}
+use Rattle.block.specs.Value.{value_lt}
 use Rattle.cipher.specs.Meaning.{Meaning, Lawful}
 use Rattle.elmd.specs.Refusals.{mark_number}
 use Rattle.elmd.specs.Stream.{t_of}

@@ -1,4 +1,4 @@
-use Rattle.std.proofs.Common.{◌≡◌, Ok, Err, refl}
+use Rattle.std.proofs.Common.{Ok, Err}
 use Rattle.rehearsal.proofs.OpenTurns.{finish_within, finish_does}
 use Rattle.rehearsal.proofs.open_side.finish_one.Goals as goal
 

@@ -1,4 +1,4 @@
-use Rattle.std.proofs.Common.{◌≡◌, sym, subst}
+use Rattle.std.proofs.Common.{sym, subst}
 use Rattle.rehearsal.specs.declared.open_calls.OpenCall.{OpenCall}
 use Rattle.rehearsal.specs.OpenLaw.{Does}
 use Rattle.rehearsal.proofs.open_side.one.Goals as goal

@@ -1,4 +1,4 @@
-use Rattle.std.proofs.Common.{◌≡◌, Ok, Err, refl}
+use Rattle.std.proofs.Common.{Ok, Err}
 use Rattle.rehearsal.proofs.OpenTurns.{put_within, put_does}
 use Rattle.rehearsal.proofs.open_side.put_one.Goals as goal
 

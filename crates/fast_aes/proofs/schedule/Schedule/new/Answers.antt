@@ -1,4 +1,4 @@
-use Rattle.std.proofs.Common.{◌≡◌, ap, rules}
+use Rattle.std.proofs.Common.{ap, rules}
 use Rattle.std.proofs.ByRecursion.{All-from_get_or}
 use Rattle.block.specs.Bytes.{of_bytes, Bytes}
 use Rattle.aes.proofs.Turns.{schedule_key, schedule_kept}
