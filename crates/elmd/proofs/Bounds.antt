@@ -1,5 +1,5 @@
 -- Every block stays below 2 ^ 128.
-use Rattle.std.proofs.Common.{◌≡◌, ℕ, zero, suc, pred, ◌-◌, ◌*◌, ◌^◌, ◌<◌, ◌≤◌, ◌||◌, eqb, ltb, List, ◌∷◌, ◌++◌, length, take, drop, replicate, arith, lit<, length-append, length-take}
+use Rattle.std.proofs.Common.{◌≡◌, ℕ, zero, suc, pred, ◌-◌, ◌*◌, ◌^◌, ◌<◌, ◌≤◌, ◌||◌, eqb, ltb, List, ◌∷◌, length, take, drop, replicate, arith, lit<, length-take}
 use lib.Bits.{bit_xor, xor_lt}
 use Rattle.std.proofs.lemmas.Bool.{cond_both}
 use Rattle.std.proofs.ByRecursion.{All-append, All-take, All-drop}
@@ -8,7 +8,7 @@ use Rattle.block.specs.Field.{dbl, half, three, seven}
 use Rattle.block.specs.Bytes.{of_bytes, padded, Bytes}
 use Rattle.block.proofs.Laws.{dbl_lt, half_lt, three_lt, five_lt, seven_lt}
 use Rattle.block.proofs.Bytes.{of_bytes_lt}
-use Rattle.elmd.specs.Stream.{Frame, pow, part, block_at, blocks, head_mask, head_block, chain_head, iv, sum_to, out_mask, in_mask, t_of, spot, check_spot, cipher_block, check_block, w_at, y_at, mark, input, x_at}
+use Rattle.elmd.specs.Stream.{Frame, pow, part, block_at, blocks, iv, sum_to, out_mask, in_mask, t_of, spot, check_spot, cipher_block, check_block, w_at, y_at, mark, input, x_at}
 use Rattle.cipher.specs.Meaning.{base}
 use Rattle.elmd.specs.Laws.{Sound}
 

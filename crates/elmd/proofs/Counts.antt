@@ -1,5 +1,5 @@
 -- The length of a stream by number.
-use Rattle.std.proofs.Common.{◌≡◌, ℕ, suc, pred, ◌+◌, ◌-◌, ◌*◌, ◌/◌, ◌%◌, ◌≤◌, Bool, true, false, cond, ◌||◌, eqb, ltb, List, length, get_or, take, drop, sym, refl, ap, ◌∙◌, subst, arith}
+use Rattle.std.proofs.Common.{◌≡◌, ℕ, suc, pred, ◌+◌, ◌-◌, ◌*◌, ◌/◌, ◌%◌, ◌≤◌, Bool, true, false, cond, ◌||◌, eqb, List, length, get_or, take, drop, sym, refl, ap, ◌∙◌, arith}
 use Rattle.std.proofs.lemmas.Bool.{le-ltb}
 use Rattle.block.specs.Field.{half, seven}
 use Rattle.block.specs.Bytes.{of_bytes, padded}
@@ -10,7 +10,7 @@ use Rattle.elmd.specs.Refusals.{mark_of}
 use Rattle.elmd.specs.declared.settings.Settings.{Settings}
 use Rattle.elmd.specs.Settings.{settings_bytes}
 use Rattle.elmd.specs.Sizes.{stream_size, blocks_in, last_mask}
-use Rattle.elmd.specs.Stream.{Frame, t_of, f_of, pow, in_mask, block_at, mark, blocks, tag_spot, tag_size, last_size, stream}
+use Rattle.elmd.specs.Stream.{Frame, t_of, f_of, pow, in_mask, block_at, mark, blocks, tag_size, last_size, stream}
 use Rattle.elmd.proofs.Lengths.{stream_length}
 
 -- t and f stand in the settings' bytes

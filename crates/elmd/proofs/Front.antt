@@ -1,5 +1,5 @@
 -- The row that the bytes of a stream give back, sealed again.
-use Rattle.std.proofs.Common.{◌≡◌, ℕ, zero, suc, pred, ◌+◌, ◌-◌, ◌*◌, ◌/◌, ◌<◌, ◌≤◌, eqb, List, [], ◌∷◌, ◌++◌, length, take, drop, replicate, sym, refl, ap, ◌∙◌, append_assoc, lt_of_lt_of_le, arith, lit<, length-drop, length-take, take-add, pow_mono}
+use Rattle.std.proofs.Common.{◌≡◌, ℕ, zero, suc, pred, ◌+◌, ◌*◌, ◌/◌, ◌<◌, ◌≤◌, eqb, List, [], ◌++◌, length, take, drop, sym, refl, ap, ◌∙◌, append_assoc, lt_of_lt_of_le, arith, lit<, length-drop, length-take, take-add, pow_mono}
 use native.Mathlib.Nat.{zero-div}
 use lib.Bits.{bit_xor, xor_assoc, xor_comm}
 use Rattle.std.proofs.ByRecursion.{All-take, All-drop}

@@ -1,16 +1,16 @@
 -- The steps of a program that seals or opens.
-use Rattle.std.proofs.Common.{◌≡◌, ℕ, zero, suc, pred, ◌+◌, ◌-◌, ◌*◌, ◌/◌, ◌<◌, ◌≤◌, eqb, List, [], ◌∷◌, ◌++◌, length, take, drop, sym, refl, ap, ◌∙◌, append_assoc, suc-mul, mul-zero, arith, length-take}
+use Rattle.std.proofs.Common.{◌≡◌, ℕ, zero, suc, pred, ◌+◌, ◌*◌, ◌/◌, ◌<◌, ◌≤◌, eqb, List, [], ◌++◌, length, take, sym, refl, ap, ◌∙◌, suc-mul, mul-zero, arith, length-take}
 use lib.Bits.{bit_xor}
 use Rattle.std.proofs.lemmas.List.{take-append-le, append-nil}
 use Rattle.std.proofs.lemmas.Nat.{div-mul-add}
-use Rattle.std.proofs.lemmas.Bool.{cond-true, cond-false, eq-eqb, ne_eqb}
+use Rattle.std.proofs.lemmas.Bool.{cond-false, ne_eqb}
 use Rattle.block.specs.Field.{dbl, three}
-use Rattle.block.specs.Bytes.{bytes_of, padded}
-use Rattle.elmd.specs.Stream.{Frame, t_of, pow, block_at, blocks, spot, tag_spot, in_mask, out_mask, sum_to, w_at, y_at, cipher_block, check_block, tag_block, place, places, tag_size, last_size, tag_bytes, mark, x_at, stream}
+use Rattle.block.specs.Bytes.{bytes_of}
+use Rattle.elmd.specs.Stream.{Frame, t_of, pow, block_at, blocks, spot, tag_spot, in_mask, out_mask, sum_to, w_at, cipher_block, check_block, tag_block, place, places, tag_size, last_size, mark, x_at, stream}
 use Rattle.cipher.specs.Meaning.{base}
-use Rattle.elmd.specs.Opening.{block_in, y_r, w_r, x_r, p_r, released}
-use Rattle.elmd.specs.Laws.{Begins, inner_x, Absorbing, Placed, Placing, last_x, last_c, last_tag, Ending, Kept, Growing, OneEnd}
-use Rattle.elmd.proofs.Quo.{quo_mono, due, not_due}
+use Rattle.elmd.specs.Opening.{y_r, w_r, x_r, p_r}
+use Rattle.elmd.specs.Laws.{Begins, inner_x, Absorbing, Placing, last_x, last_c, Ending, Growing, OneEnd}
+use Rattle.elmd.proofs.Quo.{quo_mono}
 use Rattle.elmd.proofs.Rows.{sum_same, join_same}
 use Rattle.elmd.proofs.Agree.{Same, same_w, same_places, same_block, streaming}
 use Rattle.elmd.proofs.Recover.{front_block}

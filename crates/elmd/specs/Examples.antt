@@ -1,5 +1,5 @@
 -- Examples worked by hand, and streams that another program made, computed on the definitions.
-use Rattle.std.specs.Prelude.{◌≡◌, ℕ, ◌-◌, ◌^◌, true, List, [], ◌∷◌, map, length, replicate, Some, None, Option}
+use Rattle.std.specs.Prelude.{◌≡◌, ℕ, ◌^◌, true, List, [], ◌∷◌, map, length, replicate, Some, None, Option}
 use Rattle.std.proofs.Common.{lit<}
 use Rattle.block.specs.Field.{dbl, half, seven, mix, unmix}
 use Rattle.block.specs.Bytes.{bytes_by}

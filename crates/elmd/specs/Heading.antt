@@ -1,5 +1,5 @@
 -- What an open and a closed heading stand for.
-use Rattle.std.specs.Prelude.{◌≡◌, ℕ, zero, suc, ◌+◌, ◌-◌, ◌*◌, ◌/◌, ◌%◌, List, [], ◌∷◌, ◌++◌, length, take, drop, Ok, Err, Result, bit_xor, nat_lt}
+use Rattle.std.specs.Prelude.{◌≡◌, ℕ, zero, suc, ◌+◌, ◌*◌, ◌/◌, ◌%◌, List, ◌++◌, length, take, drop, Ok, Err, Result, bit_xor, nat_lt}
 use Rattle.block.specs.Field.{dbl, three, seven}
 use Rattle.block.specs.Bytes.{of_bytes, padded}
 use Rattle.block.specs.Value.{value}

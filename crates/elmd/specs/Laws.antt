@@ -1,8 +1,7 @@
 -- What the seal and the opening keep.
-use Rattle.std.specs.Prelude.{◌≡◌, ℕ, suc, pred, ◌+◌, ◌-◌, ◌*◌, ◌/◌, ◌^◌, ◌<◌, ◌≤◌, ◌⊎◌, List, ◌∷◌, ◌++◌, length, take, drop, replicate, bit_xor}
+use Rattle.std.specs.Prelude.{◌≡◌, ℕ, suc, pred, ◌+◌, ◌*◌, ◌/◌, ◌^◌, ◌<◌, ◌≤◌, ◌⊎◌, List, ◌++◌, length, take, drop, bit_xor}
 use Rattle.block.specs.Field.{dbl, three}
 use Rattle.block.specs.Bytes.{Bytes, bytes_of, padded}
-use Rattle.std.specs.List.{AllByRecursion as All}
 use Rattle.cipher.specs.Meaning.{Lawful, base}
 use Rattle.elmd.specs.Stream.{Frame, t_of, f_of, iv, pow, block_at, blocks, checks, spot, check_spot, tag_spot, w_at, cipher_block, check_block, place, places, tag_size, last_size, sum_to, in_mask, out_mask, tag_bytes, mark, x_at, stream}
 use Rattle.elmd.specs.Opening.{block_in, blocks_of, w_r, x_r, p_r, released, Checks, Right, opened, Accepts}

@@ -1,6 +1,6 @@
 -- The eight bytes of the settings: the label; t in two bytes, highest first; seven bits for the length of the checks (0 stands for 128
 -- bits, the only length) and the bit f; the length of the tag, 128 bits; three zeros.
-use Rattle.std.specs.Prelude.{◌≡◌, ℕ, ◌+◌, ◌*◌, Bool, cond, not, List, [], ◌∷◌, Ok, Err, Result, ◌==◌, nat_lt, slice_index}
+use Rattle.std.specs.Prelude.{◌≡◌, ℕ, ◌+◌, ◌*◌, Bool, cond, not, List, [], ◌∷◌, Ok, Result, ◌==◌, nat_lt, slice_index}
 use Rattle.elmd.specs.declared.refusal.Refusal.{Refusal}
 use Rattle.elmd.specs.declared.refusal.Refusal.TheVariants.{OtherLabel, Interval, CheckLength, TagLength, SpareByte}
 use Rattle.elmd.specs.declared.settings.Settings.{Settings}

@@ -1,11 +1,11 @@
 -- Which lengths and marks a stream can have, and how it is then laid out.
-use Rattle.std.specs.Prelude.{◌≡◌, ℕ, suc, pred, ◌+◌, ◌-◌, ◌*◌, ◌/◌, ◌%◌, ◌^◌, ◌≤◌, Bool, true, false, cond, not, List, length, Some, None, Ok, Err, Option, Result, ◌==◌}
+use Rattle.std.specs.Prelude.{◌≡◌, ℕ, ◌+◌, ◌-◌, ◌*◌, ◌/◌, ◌%◌, ◌^◌, ◌≤◌, Bool, cond, not, List, Some, None, Ok, Err, Option, Result, ◌==◌}
 use Rattle.elmd.specs.declared.refusal.Refusal.{Refusal}
 use Rattle.elmd.specs.declared.refusal.Refusal.TheVariants.{StreamLength}
 use Rattle.elmd.specs.declared.settings.Settings.{Settings}
 use Rattle.elmd.specs.declared.shape.Shape.{Shape}
 use Rattle.elmd.specs.Settings.{settings_bytes}
-use Rattle.elmd.specs.Stream.{Frame, checks, tag_spot}
+use Rattle.elmd.specs.Stream.{Frame, checks}
 use Rattle.elmd.specs.Opening.{blocks_of}
 use Rattle.elmd.specs.Laws.{MessageOf}
 

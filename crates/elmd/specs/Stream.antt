@@ -1,5 +1,5 @@
 -- The seal of a message: every quantity by its index, as the mode defines it.
-use Rattle.std.specs.Prelude.{ℕ, zero, suc, pred, ◌+◌, ◌-◌, ◌*◌, ◌/◌, ◌%◌, cond, ◌||◌, List, [], ◌∷◌, ◌++◌, length, take, drop, replicate, ◌==◌, bit_xor, nat_lt, slice_index}
+use Rattle.std.specs.Prelude.{ℕ, zero, suc, pred, ◌+◌, ◌-◌, ◌*◌, ◌/◌, ◌%◌, cond, ◌||◌, List, [], ◌++◌, length, take, drop, ◌==◌, bit_xor, nat_lt, slice_index}
 use Rattle.block.specs.Field.{dbl, half, three, five, seven}
 use Rattle.block.specs.Bytes.{bytes_of, of_bytes, padded}
 use Rattle.cipher.specs.Meaning.{Meaning, base}

@@ -1,9 +1,9 @@
 -- Where the filling of a block begins.
-use Rattle.std.proofs.Common.{◌≡◌, ℕ, suc, ◌+◌, ◌-◌, ◌<◌, ◌≤◌, List, [], ◌∷◌, ◌++◌, length, get_or, take, drop, set, replicate, sym, refl, ap, ◌∙◌, ⊎_elim, arith, length-append, take-append-drop, length-take}
+use Rattle.std.proofs.Common.{◌≡◌, ℕ, suc, ◌+◌, ◌-◌, ◌<◌, ◌≤◌, List, [], ◌∷◌, ◌++◌, length, get_or, take, drop, set, replicate, sym, ap, ◌∙◌, ⊎_elim, arith, length-append, take-append-drop}
 use Rattle.std.proofs.lemmas.Bool.{cases_lt, cases_eq}
 use Rattle.std.proofs.lemmas.List.{drop_more, get_or-drop, get_or_at, get_or-append_right, get_or-replicate, length-take-le, set_at, append-nil, append_assoc, take_all}
 use Rattle.block.specs.Bytes.{padded}
-use Rattle.block.proofs.Filling.{filled_is, padded_whole}
+use Rattle.block.proofs.Filling.{filled_is}
 use Rattle.opening.specs.Last.{Begins80}
 
 pub front_filled : (v : List ℕ) (k : ℕ) → length v ≡ 16 → k < 16 → padded (take k v) ≡ take k v ++ 0x80 ∷ replicate (15 - k) 0

@@ -1,11 +1,11 @@
 -- What an opener says of messages.
-use Rattle.std.proofs.Common.{◌≡◌, ℕ, suc, pred, ◌+◌, ◌-◌, ◌*◌, ◌<◌, ◌≤◌, List, ◌++◌, length, take, Ok, Err, Result, sym, refl, ap, ◌∙◌, subst, le_refl, suc-mul, add-one, arith, length-append}
+use Rattle.std.proofs.Common.{◌≡◌, ℕ, suc, ◌+◌, ◌*◌, ◌<◌, ◌≤◌, List, ◌++◌, length, Ok, Err, Result, sym, ap, ◌∙◌, subst, le_refl, suc-mul, add-one, arith, length-append}
 use Rattle.std.proofs.ByRecursion.{All-append}
 use Rattle.block.specs.Bytes.{Bytes}
 use Rattle.cipher.specs.Meaning.{Lawful}
 use Rattle.elmd.specs.declared.refusal.Refusal.{Refusal}
 use Rattle.elmd.specs.Refusals.{mark_number}
-use Rattle.elmd.specs.Stream.{Frame, t_of, checks, stream}
+use Rattle.elmd.specs.Stream.{Frame, t_of, checks}
 use Rattle.elmd.specs.Opening.{blocks_of, released, Check, Checks, Right, opened}
 use Rattle.elmd.specs.Laws.{Sound, MessageOf, Extends, Begins}
 use Rattle.elmd.proofs.Extend.{extension, release}

@@ -6,7 +6,6 @@ use Rattle.block.specs.Bytes.{Bytes, bytes_of}
 use Rattle.elmd.specs.Stream.{Frame, t_of, checks}
 use Rattle.elmd.specs.Opening.{p_r, released, Check, Checks, Right, opened, last_r}
 use Rattle.elmd.specs.Refusals.{mark_number}
-use Rattle.elmd.specs.Laws.{Begins}
 use Rattle.elmd.proofs.Counts.{interval_is}
 use Rattle.elmd.proofs.Quo.{quo_mono}
 use Rattle.elmd.proofs.Rows.{sum_same}
@@ -16,11 +15,11 @@ use Rattle.opening.specs.declared.place.Opener.{Opener}
 use Rattle.opening.specs.Reading.{Reads}
 use Rattle.opening.specs.Open.{through}
 use Rattle.opening.specs.Judging.{EndRight}
-use Rattle.opening.specs.Segment.{There, Segment, Rest}
-use Rattle.opening.specs.Opener.{next_end, Opening}
+use Rattle.opening.specs.Segment.{There, Rest}
+use Rattle.opening.specs.Opener.{Opening}
 use Rattle.opening.proofs.Passing.{checks_more}
 use Rattle.opening.proofs.Words.{checks_in, checks_out}
-use Rattle.opening.proofs.Standings.{times_more, end_next, blocks_low, full_checks, full_fill}
+use Rattle.opening.proofs.Standings.{times_more, blocks_low, full_checks, full_fill}
 
 pub reads_start : (u : Frame) (r : Reading) → Reads u [] 0 r → Reads u [] (0 * t_of u) r
 reads_start u r ok = subst (λ (n : ℕ). Reads u [] n r) (sym (zero-mul (t_of u))) ok

@@ -1,10 +1,10 @@
 -- The whole of a message's place, from its front and its end.
-use Rattle.std.proofs.Common.{◌≡◌, ℕ, suc, pred, ◌+◌, ◌-◌, ◌*◌, ◌/◌, ◌≤◌, List, ◌++◌, length, take, replicate, sym, refl, ap, ◌∙◌, subst, append_assoc, arith}
+use Rattle.std.proofs.Common.{◌≡◌, ℕ, suc, pred, ◌+◌, ◌-◌, ◌*◌, ◌/◌, ◌≤◌, List, ◌++◌, take, replicate, sym, ap, ◌∙◌, subst, append_assoc, arith}
 use Rattle.block.specs.Bytes.{bytes_of}
 use Rattle.elmd.specs.declared.refusal.Refusal.{Refusal}
 use Rattle.elmd.specs.declared.refusal.Refusal.TheVariants.{OtherLabel, Interval, CheckLength, TagLength, SpareByte, HeadingLength, MessageLength, PieceTooLong, OutputShort, BytesMissing, NoChecks, StreamLength, Over, Spoiled, StreamComplete, RoomShort, BadCheck, StreamMissing, BadTag}
 use Rattle.elmd.specs.Stream.{Frame, t_of, checks}
-use Rattle.elmd.specs.Opening.{released, Checks, Right, opened, last_r}
+use Rattle.elmd.specs.Opening.{released, Checks, last_r}
 use Rattle.opening.specs.declared.state.Reading.{Reading}
 use Rattle.opening.specs.Judging.{Cause, FirstBad, Passed, BadEnd, Good, EndRight}
 

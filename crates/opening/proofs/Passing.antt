@@ -1,14 +1,14 @@
 -- Blocks that pass, one after another.
-use Rattle.std.proofs.Common.{◌≡◌, ℕ, suc, pred, ◌+◌, ◌*◌, ◌/◌, ◌<◌, ◌≤◌, Bool, true, false, cond, eqb, ◌⊎◌, List, ◌++◌, sym, refl, ap, ◌∙◌, subst, inl, inr, ⊎_elim, arith}
+use Rattle.std.proofs.Common.{◌≡◌, ℕ, suc, ◌+◌, ◌*◌, ◌/◌, ◌<◌, Bool, true, false, List, ◌++◌, sym, ap, ◌∙◌, subst, ⊎_elim, arith}
 use native.Mathlib.Nat.{zero-div}
-use Rattle.std.proofs.lemmas.Bool.{cases_eq, cases_lt, true≢false, cond-true, cond-false, eq-eqb, ne_eqb}
+use Rattle.std.proofs.lemmas.Bool.{cases_eq, cases_lt, true≢false}
 use Rattle.block.specs.Bytes.{bytes_of}
 use Rattle.block.specs.Field.{five}
 use Rattle.block.specs.Value.{value, value_lt}
 use Rattle.block.specs.declared.raw.Block.{Block}
 use Rattle.cipher.specs.Meaning.{base}
 use Rattle.elmd.specs.Stream.{Frame, t_of, iv, pow}
-use Rattle.elmd.specs.Opening.{p_r, released, Check, Checks}
+use Rattle.elmd.specs.Opening.{released, Check, Checks}
 use Rattle.elmd.proofs.Quo.{quo_mono}
 use Rattle.elmd.proofs.Strides.{quo_due, quo_not}
 use Rattle.opening.specs.declared.state.Reading.{Reading}

@@ -1,5 +1,5 @@
 -- One block of an opening, at the definitions.
-use Rattle.std.proofs.Common.{◌≡◌, ℕ, suc, pred, ◌+◌, ◌-◌, ◌*◌, ◌/◌, ◌^◌, ◌<◌, ◌≤◌, List, ◌++◌, length, take, drop, sym, refl, ap, ◌∙◌, suc-mul, arith, length-drop, length-take}
+use Rattle.std.proofs.Common.{◌≡◌, ℕ, suc, ◌+◌, ◌*◌, ◌/◌, ◌≤◌, List, length, take, drop, sym, refl, ap, ◌∙◌, suc-mul, arith, length-drop, length-take}
 use lib.Bits.{bit_xor}
 use Rattle.std.proofs.lemmas.List.{take-take, drop-drop, drop-take}
 use Rattle.block.specs.Field.{dbl, three, five}
@@ -11,7 +11,7 @@ use Rattle.elmd.specs.declared.refusal.Mark.{Mark}
 use Rattle.elmd.specs.declared.refusal.Mark.TheVariants.{Filled, Whole}
 use Rattle.elmd.specs.Refusals.{mark_number, mark_of}
 use Rattle.elmd.specs.Sizes.{last_mask}
-use Rattle.elmd.specs.Stream.{Frame, t_of, pow, spot, check_spot, tag_spot, sum_to, in_mask, out_mask}
+use Rattle.elmd.specs.Stream.{Frame, t_of, pow, check_spot, tag_spot, in_mask, out_mask}
 use Rattle.elmd.proofs.Counts.{last_mask_is}
 use Rattle.elmd.specs.Opening.{block_in, y_r, w_r, x_r, p_r, Check, sum_r, last_r, tag_r}
 use Rattle.elmd.proofs.Strides.{quo_due, quo_not, five_more}

@@ -1,5 +1,5 @@
 -- The numbers of an opener.
-use Rattle.std.proofs.Common.{◌≡◌, ℕ, suc, pred, ◌+◌, ◌-◌, ◌*◌, ◌/◌, ◌<◌, ◌≤◌, Bool, true, false, cond, ltb, List, [], ◌++◌, length, take, drop, sym, refl, ap, ◌∙◌, subst, ⊎_elim, le_refl, suc-mul, mul-suc, div-mul-le_self, add-one, arith}
+use Rattle.std.proofs.Common.{◌≡◌, ℕ, suc, pred, ◌+◌, ◌-◌, ◌*◌, ◌/◌, ◌<◌, ◌≤◌, false, ltb, List, [], ◌++◌, length, take, drop, ap, ◌∙◌, ⊎_elim, le_refl, suc-mul, mul-suc, div-mul-le_self, add-one, arith}
 use native.Mathlib.Nat.{lt-div-mul-add}
 use Rattle.std.proofs.lemmas.Nat.{mul-le}
 use Rattle.std.proofs.lemmas.List.{take_at, drop_at, length-take-le}
@@ -8,8 +8,7 @@ use Rattle.elmd.specs.declared.settings.Settings.{Settings}
 use Rattle.elmd.specs.Settings.{settings_bytes}
 use Rattle.elmd.specs.Stream.{Frame}
 use Rattle.opening.specs.declared.place.Opener.{Opener}
-use Rattle.opening.specs.Standing.{end_of}
-use Rattle.opening.specs.Opener.{next_end, last_room}
+use Rattle.opening.specs.Opener.{next_end}
 
 pub times_more : (j t : ℕ) → j * (t + 1) ≡ j * t + j
 times_more j t = ap (λ (n : ℕ). j * n) (add-one t) ∙ mul-suc j t

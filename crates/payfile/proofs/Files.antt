@@ -1,23 +1,19 @@
 -- Answers and lengths of a pay file.
-use Rattle.std.proofs.Common.{◌≡◌, ℕ, pred, ◌+◌, ◌*◌, ◌/◌, ◌^◌, ◌<◌, ◌≤◌, Bool, true, false, cond, ◌||◌, eqb, ltb, List, [], ◌∷◌, ◌++◌, length, Ok, Err, Result, sym, refl, ap, ◌∙◌, ⊎_elim, div-le_self, arith, length-append}
+use Rattle.std.proofs.Common.{◌≡◌, ℕ, pred, ◌+◌, ◌/◌, ◌<◌, ◌≤◌, Bool, true, false, ◌||◌, eqb, ltb, List, ◌++◌, length, Ok, Err, Result, sym, refl, ap, ◌∙◌, ⊎_elim, div-le_self, arith, length-append}
 use Rattle.std.proofs.lemmas.Bool.{cond-true, cond-false, le-ltb, lt-ltb}
-use Rattle.block.specs.Bytes.{bytes_by}
-use Rattle.block.proofs.Bytes.{length_bytes_by}
 use Rattle.elmd.specs.declared.refusal.Refusal.{Refusal}
-use Rattle.elmd.specs.declared.refusal.Refusal.TheVariants.{HeadingLength, MessageLength, OutputShort}
-use Rattle.elmd.specs.declared.refusal.Mark.{Mark}
-use Rattle.elmd.specs.Refusals.{refuse, next, mark_number, mark_of}
+use Rattle.elmd.specs.declared.refusal.Refusal.TheVariants.{MessageLength, OutputShort}
+use Rattle.elmd.specs.Refusals.{refuse, mark_number, mark_of}
 use Rattle.elmd.specs.Settings.{settings_answer}
-use Rattle.elmd.specs.Heading.{add_answer}
-use Rattle.elmd.specs.Stream.{Frame, t_of, blocks, last_size, tag_spot, tag_size, mark, stream}
+use Rattle.elmd.specs.Stream.{Frame, t_of, blocks, last_size, mark, stream}
 use Rattle.elmd.proofs.Lengths.{stream_length, size_range, last_pos, last_le}
 use Rattle.elmd.proofs.Finish.{mark_cases}
 use Rattle.sealing.specs.Seal.{seal_answer}
 use Rattle.payfile.specs.declared.refusal.FileRefusal.{FileRefusal}
-use Rattle.payfile.specs.declared.refusal.FileRefusal.TheVariants.{File, Seal}
+use Rattle.payfile.specs.declared.refusal.FileRefusal.TheVariants.{Seal}
 use Rattle.payfile.specs.Refusals.{after, of_seal}
 use Rattle.payfile.specs.Layout.{front_bytes, file_of, pay_file, label_answer}
-use Rattle.payfile.specs.Write.{message_answer, sealed_answer}
+use Rattle.payfile.specs.Write.{sealed_answer}
 
 -- an answer that is none of a refusal
 pub after_ok : (x : Result Unit Refusal) (y : Result Unit FileRefusal) → Ok tt ≡ after (of_seal x) y → (x ≡ Ok tt) × (y ≡ Ok tt)

@@ -1,11 +1,10 @@
 -- A file read back: each field where it stands, and the file from its fields.
-use Rattle.std.proofs.Common.{◌≡◌, ℕ, suc, ◌+◌, ◌-◌, ◌*◌, ◌%◌, ◌^◌, ◌<◌, ◌≤◌, List, [], ◌∷◌, ◌++◌, length, get_or, take, drop, sym, refl, ap, ◌∙◌, append_assoc, arith, length-append, length-drop, take-append-drop, length-take}
-use Rattle.std.specs.List.{AllByRecursion as All}
-use Rattle.std.proofs.lemmas.List.{take_at, drop_at, drop-drop, drop_more, get_or_at, take_all}
+use Rattle.std.proofs.Common.{◌≡◌, ℕ, ◌+◌, ◌<◌, ◌≤◌, List, ◌∷◌, ◌++◌, length, get_or, take, drop, sym, refl, ap, ◌∙◌, append_assoc, arith, length-append, length-drop, take-append-drop, length-take}
+use Rattle.std.proofs.lemmas.List.{take_at, drop_at, drop-drop, drop_more, get_or_at}
 use Rattle.std.proofs.ByRecursion.{All-take, All-drop}
 use Rattle.block.specs.Bytes.{Bytes, of_bytes, bytes_by}
 use Rattle.block.proofs.Bytes.{number_bytes_by, bytes_by_of_bytes}
-use Rattle.payfile.specs.Layout.{front_bytes, file_of, heading_size, stream_size, nonce_in, settings_in, mark_in, heading_in, stream_in}
+use Rattle.payfile.specs.Layout.{file_of, heading_size, stream_size, nonce_in, settings_in, mark_in, heading_in, stream_in}
 
 -- the fields in one row
 abbrev row : (nonce settings : List ℕ) (k : ℕ) (heading s : List ℕ) → List ℕ

@@ -1,13 +1,12 @@
 -- The end of a seal, at the definitions.
-use Rattle.std.proofs.Common.{◌≡◌, ℕ, suc, pred, ◌+◌, ◌*◌, ◌/◌, ◌≤◌, Bool, true, false, cond, ◌||◌, eqb, ltb, List, ◌++◌, sym, refl, ap, ◌∙◌, arith}
-use lib.Bits.{bit_xor}
-use Rattle.block.specs.Field.{dbl, half, three, five, seven}
+use Rattle.std.proofs.Common.{◌≡◌, ℕ, suc, ◌+◌, ◌/◌, List, sym, ap, ◌∙◌, arith}
+use Rattle.block.specs.Field.{dbl, five}
 use Rattle.block.specs.Value.{value}
 use Rattle.cipher.specs.Meaning.{base}
 use Rattle.elmd.specs.Refusals.{mark_of}
 use Rattle.elmd.specs.Sizes.{last_mask}
-use Rattle.elmd.specs.Stream.{Frame, t_of, pow, spot, tag_spot, sum_to, block_at, out_mask, w_at, mark}
-use Rattle.elmd.specs.Laws.{inner_x, last_x, last_c, last_tag}
+use Rattle.elmd.specs.Stream.{Frame, t_of, pow, tag_spot, out_mask, w_at}
+use Rattle.elmd.specs.Laws.{inner_x, last_c, last_tag}
 use Rattle.elmd.proofs.Counts.{last_mask_is}
 use Rattle.sealing.specs.declared.state.Running.{Running}
 use Rattle.sealing.specs.Running.{Runs, end_blocks}

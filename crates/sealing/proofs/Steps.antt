@@ -1,12 +1,12 @@
 -- One block of a seal, at the definitions.
-use Rattle.std.proofs.Common.{◌≡◌, ℕ, zero, suc, pred, ◌+◌, ◌-◌, ◌*◌, ◌/◌, ◌^◌, ◌<◌, ◌≤◌, List, ◌++◌, sym, refl, ap, ◌∙◌, ⊎_elim, suc-mul, arith}
+use Rattle.std.proofs.Common.{◌≡◌, ℕ, suc, ◌+◌, ◌*◌, ◌/◌, List, ◌++◌, ap, ◌∙◌, ⊎_elim, suc-mul, arith}
 use Rattle.std.proofs.lemmas.Bool.{cases_eq}
 use lib.Bits.{bit_xor}
 use Rattle.block.specs.Field.{dbl, three, five}
 use Rattle.block.specs.Bytes.{bytes_of}
 use Rattle.block.specs.Value.{value}
 use Rattle.cipher.specs.Meaning.{base}
-use Rattle.elmd.specs.Stream.{Frame, t_of, pow, block_at, spot, check_spot, sum_to, out_mask, w_at, y_at, cipher_block, check_block, place}
+use Rattle.elmd.specs.Stream.{Frame, t_of, pow, block_at, check_spot, out_mask, w_at, cipher_block, check_block, place}
 use Rattle.elmd.specs.Laws.{inner_x}
 use Rattle.elmd.proofs.Strides.{quo_due, quo_not, since_below, five_more}
 use Rattle.elmd.proofs.Steps.{placing}

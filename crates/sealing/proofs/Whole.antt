@@ -1,5 +1,5 @@
 -- A whole stream from its front and its end.
-use Rattle.std.proofs.Common.{◌≡◌, ℕ, suc, pred, ◌+◌, ◌-◌, ◌*◌, ◌/◌, ◌≤◌, Bool, true, false, cond, List, ◌++◌, length, take, drop, sym, refl, ap, ◌∙◌, arith, take-append-drop}
+use Rattle.std.proofs.Common.{◌≡◌, ℕ, suc, ◌+◌, ◌-◌, ◌*◌, ◌/◌, ◌≤◌, Bool, true, false, cond, List, ◌++◌, length, take, drop, sym, ap, ◌∙◌, arith, take-append-drop}
 use native.Mathlib.Nat.{zero-div}
 use Rattle.std.proofs.lemmas.List.{drop-drop}
 use Rattle.block.specs.Field.{five}
@@ -12,7 +12,7 @@ use Rattle.elmd.specs.Settings.{settings_bytes}
 use Rattle.elmd.specs.Stream.{Frame, t_of, iv, pow, blocks, block_at, last_size, tag_size, sum_to, w_at, places, mark, stream}
 use Rattle.elmd.specs.Laws.{inner_x, last_c, last_tag}
 use Rattle.elmd.proofs.Steps.{ending}
-use Rattle.elmd.proofs.Counts.{interval_is, tag_size_is, stream_size_lem, size_parts}
+use Rattle.elmd.proofs.Counts.{tag_size_is, stream_size_lem, size_parts}
 use Rattle.sealing.specs.declared.state.Running.{Running}
 use Rattle.sealing.specs.Running.{Runs}
 

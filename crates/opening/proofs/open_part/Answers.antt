@@ -1,4 +1,4 @@
-use Rattle.std.proofs.Common.{◌≡◌, ℕ, ◌+◌, ◌-◌, ◌*◌, List, length, drop, replicate, sym, refl, ap, ◌∙◌, subst, arith, rules}
+use Rattle.std.proofs.Common.{◌≡◌, ℕ, ◌+◌, ◌-◌, ◌*◌, length, drop, replicate, sym, ap, ◌∙◌, rules}
 use Rattle.block.specs.Value.{value}
 use Rattle.elmd.specs.Refusals.{mark_number}
 use Rattle.elmd.proofs.Counts.{interval_is}

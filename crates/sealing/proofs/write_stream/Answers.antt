@@ -1,5 +1,4 @@
-use Rattle.std.proofs.Common.{◌≡◌, ℕ, suc, ◌+◌, ◌-◌, ◌*◌, ◌/◌, ◌≤◌, List, ◌++◌, length, take, drop, sym, refl, ap, ◌∙◌, arith, rules}
-use Rattle.block.specs.Value.{value}
+use Rattle.std.proofs.Common.{◌≡◌, ℕ, ◌+◌, ◌-◌, ◌*◌, ◌/◌, ◌≤◌, length, take, drop, sym, refl, ap, ◌∙◌, arith, rules}
 use Rattle.elmd.specs.Stream.{stream}
 use Rattle.elmd.proofs.Counts.{interval_is, size_parts}
 use Rattle.sealing.proofs.Whole.{first_runs, stream_end, stream_is, kept_behind, joined_whole, tag_le, end_is}

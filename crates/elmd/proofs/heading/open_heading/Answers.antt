@@ -1,7 +1,4 @@
-use Rattle.std.proofs.Common.{[], sym, refl, ap, ◌∙◌}
-use lib.Bits.{bit_xor}
-use Rattle.block.specs.Field.{three}
-use Rattle.cipher.specs.Meaning.{base}
+use Rattle.std.proofs.Common.{[], refl}
 use Rattle.elmd.specs.Heading.{frame_of}
 use Rattle.elmd.proofs.Heads.{first_head}
 use Rattle.elmd.proofs.heading.open_heading.Goals as goal

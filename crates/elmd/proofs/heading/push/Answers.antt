@@ -1,4 +1,4 @@
-use Rattle.std.proofs.Common.{◌≡◌, suc, ◌+◌, ◌*◌, ◌/◌, ◌%◌, ◌≤◌, [], ◌∷◌, ◌++◌, length, sym, refl, ap, ◌∙◌, arith, rules}
+use Rattle.std.proofs.Common.{◌≡◌, suc, ◌+◌, ◌/◌, [], ◌∷◌, length, refl, ap, arith, rules}
 use Rattle.cipher.specs.Meaning.{base}
 use Rattle.elmd.specs.Stream.{pow}
 use Rattle.elmd.specs.Heading.{more, inner_head}

@@ -1,4 +1,4 @@
-use Rattle.std.proofs.Common.{◌≡◌, ℕ, pred, ◌-◌, ◌/◌, sym, ap, ◌∙◌, arith}
+use Rattle.std.proofs.Common.{◌≡◌, ℕ, pred, ◌/◌, sym, ap, ◌∙◌, arith}
 use native.Mathlib.Nat.{div-zero}
 use Rattle.elmd.proofs.sizes.checks_in.Goals as goal
 

@@ -1,7 +1,6 @@
-use Rattle.std.proofs.Common.{◌≡◌, ℕ, suc, ◌+◌, ◌*◌, ◌/◌, ◌≤◌, cond, eqb, List, [], ◌++◌, length, take, drop, sym, refl, ap, ◌∙◌, subst, zero-mul, div-le_self, add-one, arith, rules}
+use Rattle.std.proofs.Common.{◌≡◌, ℕ, suc, ◌+◌, ◌*◌, ◌/◌, ◌≤◌, cond, eqb, [], length, take, drop, sym, refl, ap, ◌∙◌, subst, zero-mul, div-le_self, add-one, arith}
 use native.Mathlib.Nat.{zero-div}
 use Rattle.block.specs.Value.{value}
-use Rattle.elmd.specs.Stream.{t_of}
 use Rattle.elmd.specs.Sizes.{stride}
 use Rattle.elmd.proofs.Strides.{since_is, quo_next, stride_fits}
 use Rattle.opening.specs.Judging.{Passed}

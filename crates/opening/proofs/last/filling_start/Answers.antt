@@ -1,4 +1,4 @@
-use Rattle.std.proofs.Common.{◌≡◌, ◌-◌, length, sym, refl, ◌∙◌, arith, rules}
+use Rattle.std.proofs.Common.{◌≡◌, ◌-◌, length, arith, rules}
 use Rattle.std.proofs.lemmas.List.{drop_all}
 use Rattle.opening.proofs.Fillings.{fill_here, zeros_more, not_behind, no_filling, back_one}
 use Rattle.opening.proofs.last.filling_start.Goals as goal

@@ -1,4 +1,4 @@
-use Rattle.std.proofs.Common.{◌≡◌, ℕ, take, drop}
+use Rattle.std.proofs.Common.{◌≡◌, take, drop}
 use Rattle.opening.proofs.last.tag_matches.Given as goal
 
 abbrev pub invariant-loop-i : goal.invariant-loop-i

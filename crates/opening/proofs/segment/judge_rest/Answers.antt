@@ -1,10 +1,9 @@
-use Rattle.std.proofs.Common.{◌≡◌, ℕ, suc, ◌+◌, ◌-◌, ◌*◌, ◌≤◌, List, ◌++◌, length, take, drop, replicate, sym, refl, ap, ◌∙◌, subst, append_assoc, zero-add, arith, rules}
+use Rattle.std.proofs.Common.{◌≡◌, ℕ, ◌+◌, ◌*◌, ◌≤◌, List, ◌++◌, length, take, replicate, sym, refl, ap, ◌∙◌, append_assoc, zero-add, arith, rules}
 use native.Mathlib.Nat.{sub-zero}
 use Rattle.std.proofs.lemmas.List.{length-take-le}
 use Rattle.block.specs.Value.{value}
 use Rattle.block.specs.Bytes.{bytes_of}
-use Rattle.elmd.specs.Refusals.{mark_number}
-use Rattle.elmd.specs.Opening.{released, last_r}
+use Rattle.elmd.specs.Opening.{released}
 use Rattle.elmd.proofs.Counts.{interval_is}
 use Rattle.opening.proofs.Standings.{let_out}
 use Rattle.opening.proofs.Runs.{front_there, end_there, last_front}

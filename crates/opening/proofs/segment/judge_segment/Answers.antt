@@ -1,4 +1,4 @@
-use Rattle.std.proofs.Common.{◌≡◌, ℕ, ◌+◌, ◌*◌, ◌≤◌, true, false, List, ◌++◌, length, take, drop, replicate, sym, refl, ap, ◌∙◌, subst, zero-add, arith, rules}
+use Rattle.std.proofs.Common.{◌≡◌, ℕ, ◌*◌, ◌≤◌, List, ◌++◌, length, replicate, sym, refl, ap, ◌∙◌, zero-add, arith, rules}
 use native.Mathlib.Nat.{sub-zero}
 use Rattle.std.proofs.lemmas.Bool.{true≢false}
 use Rattle.elmd.specs.Opening.{released}

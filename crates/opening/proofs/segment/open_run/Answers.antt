@@ -1,4 +1,4 @@
-use Rattle.std.proofs.Common.{◌≡◌, ℕ, ◌+◌, ◌*◌, ◌<◌, ◌≤◌, List, length, take, drop, sym, refl, ap, ◌∙◌, subst, arith, rules}
+use Rattle.std.proofs.Common.{◌≡◌, ℕ, ◌+◌, ◌*◌, ◌<◌, ◌≤◌, length, take, drop, sym, refl, ◌∙◌, subst, arith}
 use Rattle.block.specs.Value.{value}
 use Rattle.opening.specs.Segment.{Counted, Ran}
 use Rattle.opening.proofs.Runs.{stride_le, counted_none, counted_more, drops_more, ran_none, place_same, ran_more}

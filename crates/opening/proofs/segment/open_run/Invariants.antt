@@ -1,4 +1,4 @@
-use Rattle.std.proofs.Common.{◌≡◌, ℕ, ◌+◌, ◌*◌, ◌<◌, List, take, drop}
+use Rattle.std.proofs.Common.{◌≡◌, ℕ, ◌+◌, ◌*◌, List, take, drop}
 use Rattle.elmd.specs.Stream.{Frame, t_of}
 use Rattle.opening.specs.Reading.{Reads}
 use Rattle.opening.specs.Segment.{Counted, There, Ran}

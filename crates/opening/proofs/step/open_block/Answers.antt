@@ -1,8 +1,8 @@
-use Rattle.std.proofs.Common.{◌≡◌, ℕ, suc, ◌+◌, ◌*◌, ◌/◌, ◌≤◌, Bool, cond, length, sym, refl, ap, ◌∙◌, add-zero, arith}
+use Rattle.std.proofs.Common.{◌≡◌, ℕ, suc, ◌+◌, ◌/◌, ◌≤◌, Bool, cond, length, sym, refl, ap, ◌∙◌, add-zero, arith}
 use Rattle.std.proofs.lemmas.Bool.{ne_eqb, eq-eqb, eqb-true}
 use Rattle.block.specs.Value.{value}
 use Rattle.elmd.specs.Stream.{t_of}
-use Rattle.elmd.specs.Opening.{y_r, w_r, x_r, p_r}
+use Rattle.elmd.specs.Opening.{y_r, w_r, p_r}
 use Rattle.elmd.specs.Sizes.{stride}
 use Rattle.opening.proofs.Readings.{loaded_in, loaded_past, read_y, read_x, read_w, read_p, read_check, reads_on, reads_past}
 use Rattle.opening.proofs.step.open_block.Goals as goal

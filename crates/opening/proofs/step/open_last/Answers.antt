@@ -1,4 +1,4 @@
-use Rattle.std.proofs.Common.{◌≡◌, ℕ, suc, ◌+◌, ◌*◌, ◌/◌, take, sym, refl, ap, ◌∙◌, arith}
+use Rattle.std.proofs.Common.{◌≡◌, ℕ, suc, ◌+◌, ◌/◌, take, ap, arith}
 use Rattle.block.specs.Value.{value}
 use Rattle.elmd.specs.Refusals.{mark_number}
 use Rattle.elmd.specs.Stream.{t_of}

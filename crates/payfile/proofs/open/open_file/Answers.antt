@@ -1,4 +1,4 @@
-use Rattle.std.proofs.Common.{◌≡◌, ℕ, ◌+◌, ◌-◌, ◌<◌, List, length, take, drop, Ok, Err, Result, sym, refl, ap, ◌∙◌, subst, arith, rules}
+use Rattle.std.proofs.Common.{◌≡◌, ℕ, ◌+◌, ◌-◌, ◌<◌, List, length, take, drop, Ok, Err, Result, sym, refl, ap, ◌∙◌, subst, arith}
 use mir.Facts.{Fits-lt-pow}
 use Rattle.std.proofs.ByRecursion.{All-from_get_or}
 use Rattle.std.proofs.lemmas.List.{take_rest}
@@ -9,7 +9,7 @@ use Rattle.payfile.specs.declared.refusal.FileRefusal.{FileRefusal}
 use Rattle.payfile.specs.declared.refusal.FileRefusal.TheVariants.{Seal}
 use Rattle.payfile.specs.Refusals.{after, of_seal}
 use Rattle.payfile.specs.Open.{FileOpened}
-use Rattle.payfile.specs.Layout.{nonce_in, frame_in, stream_in, settings_in, mark_in, front_answer, label_answer, heading_size}
+use Rattle.payfile.specs.Layout.{nonce_in, stream_in, settings_in, label_answer, heading_size}
 use Rattle.payfile.proofs.Opened.{refused, judged, exactly}
 use Rattle.payfile.proofs.open.open_file.Given as given
 use Rattle.payfile.proofs.open.open_file.Goals as goal
@@ -49,7 +49,7 @@ core g c =
     ∙ ap (λ (n : ℕ). frame_of m (settings_in file) (nonce_in file) (take n (drop 26 file))) size in
     let stream : take (length file - (26 + c.in-Ok.front.heading)) (drop (26 + c.in-Ok.front.heading) file) ≡ stream_in file =
     take_rest file (26 + c.in-Ok.front.heading) ∙ ap (λ (n : ℕ). drop (26 + n) file) f.heading_is in
-    judged m file c.args.out.now c.open.result c.open.new.out _ _ _ frame stream f.mark_is (sym c.in-Ok.ensures.answer) label c.open.ensures.opened
+    judged m file c.args.out.now c.open.result c.open.new.out _ _ _ frame stream f.mark_is (sym c.in-Ok.ensures.answer) label c.open.ensures.opened c.open.ensures.found
 
 pub returns-in-Ok-open : goal.returns-in-Ok-open
 returns-in-Ok-open g c =

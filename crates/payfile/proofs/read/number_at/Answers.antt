@@ -1,4 +1,4 @@
-use Rattle.std.proofs.Common.{sym, ◌∙◌, arith, rules}
+use Rattle.std.proofs.Common.{sym, ◌∙◌, rules}
 use Rattle.payfile.proofs.Fields.{four_at}
 use Rattle.payfile.proofs.read.number_at.Goals as goal
 

@@ -1,4 +1,4 @@
-use Rattle.std.proofs.Common.{◌≡◌, ℕ, [], ◌∷◌, ap}
+use Rattle.std.proofs.Common.{ℕ, [], ◌∷◌, ap}
 use Rattle.payfile.proofs.Puts.{then, put_as}
 use Rattle.payfile.proofs.write.put_front.Goals as goal
 

@@ -1,4 +1,4 @@
-use Rattle.std.proofs.Common.{◌≡◌, ℕ, ◌+◌, ◌-◌, length, take, drop, sym, refl, ap, ◌∙◌, arith, length-drop, length-take}
+use Rattle.std.proofs.Common.{◌≡◌, ℕ, ◌+◌, ◌-◌, length, take, drop, ap, ◌∙◌, arith, length-drop, length-take}
 use Rattle.elmd.specs.Heading.{frame_of}
 use Rattle.elmd.specs.Stream.{stream}
 use Rattle.sealing.specs.Seal.{seal_answer, sealed}

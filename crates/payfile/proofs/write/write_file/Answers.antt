@@ -1,9 +1,9 @@
-use Rattle.std.proofs.Common.{◌≡◌, ℕ, ◌<◌, ◌≤◌, min, List, length, take, sym, refl, ap, ◌∙◌, subst, arith, length-take, rules}
+use Rattle.std.proofs.Common.{◌≡◌, ℕ, ◌<◌, ◌≤◌, min, List, length, take, sym, ap, ◌∙◌, arith, length-take, rules}
 use mir.Facts.{Fits-lt-pow}
 use Rattle.std.proofs.ByRecursion.{All-from_get_or}
 use Rattle.elmd.specs.Heading.{frame_of}
 use Rattle.elmd.specs.Stream.{Frame}
-use Rattle.payfile.specs.Layout.{heading_of, heading_answer}
+use Rattle.payfile.specs.Layout.{heading_of}
 use Rattle.payfile.specs.Write.{sealed_answer, written}
 use Rattle.payfile.specs.Refusals.{after}
 use Rattle.payfile.proofs.Opened.{given_back}

@@ -1,7 +1,7 @@
-use Rattle.std.proofs.Common.{◌≡◌, ℕ, ◌+◌, ◌%◌, ◌<◌, ◌≤◌, false, cond, ◌||◌, eqb, ltb, List, ◌++◌, length, Ok, Err, sym, refl, ap, ◌∙◌, subst, arith, rules}
+use Rattle.std.proofs.Common.{◌≡◌, ℕ, ◌+◌, ◌<◌, false, ◌||◌, eqb, ltb, List, length, Ok, sym, refl, ap, ◌∙◌, arith, rules}
 use Rattle.cipher.specs.Meaning.{Meaning}
 use Rattle.elmd.specs.Heading.{frame_of}
-use Rattle.elmd.specs.Refusals.{mark_number, mark_of}
+use Rattle.elmd.specs.Refusals.{mark_number}
 use Rattle.elmd.specs.Settings.{settings_answer}
 use Rattle.elmd.specs.Stream.{Frame, mark, stream}
 use Rattle.elmd.proofs.Counts.{marked_is}

@@ -1,10 +1,9 @@
-use Rattle.std.proofs.Common.{◌≡◌, ℕ, suc, ◌+◌, ◌/◌, ◌≤◌, ◌++◌, length, take, drop, sym, refl, ap, ◌∙◌, append_assoc, arith, rules}
+use Rattle.std.proofs.Common.{◌≡◌, suc, ◌+◌, ◌/◌, ◌≤◌, ◌++◌, length, take, drop, sym, refl, ap, ◌∙◌, append_assoc, arith, rules}
 use Rattle.std.proofs.lemmas.List.{drop-drop}
-use Rattle.std.proofs.lemmas.Bool.{cond-true, cond-false, ne_eqb, eq-eqb}
+use Rattle.std.proofs.lemmas.Bool.{ne_eqb, eq-eqb}
 use Rattle.block.specs.Value.{value}
-use Rattle.block.specs.Field.{three, dbl}
 use Rattle.block.specs.Bytes.{bytes_of}
-use Rattle.elmd.specs.Stream.{t_of, cipher_block, check_block, place}
+use Rattle.elmd.specs.Stream.{t_of, cipher_block, check_block}
 use Rattle.elmd.specs.Laws.{inner_x}
 use Rattle.elmd.specs.Sizes.{stride}
 use Rattle.sealing.proofs.Steps.{sealed_x, sealed_c, sealed_check, runs_on, runs_past, placed_on, placed_past}

@@ -1,6 +1,6 @@
-use Rattle.std.proofs.Common.{◌≡◌, ℕ, suc, ◌+◌, ◌*◌, ◌/◌, ◌++◌, length, take, drop, sym, refl, ap, ◌∙◌, add-one, arith, rules}
+use Rattle.std.proofs.Common.{◌≡◌, suc, ◌+◌, ◌*◌, ◌/◌, ◌++◌, length, drop, sym, ap, ◌∙◌, add-one, arith, rules}
 use Rattle.std.proofs.lemmas.List.{drop-drop}
-use Rattle.elmd.specs.Stream.{block_at, place, places}
+use Rattle.elmd.specs.Stream.{block_at, place}
 use Rattle.elmd.specs.Laws.{inner_x}
 use Rattle.elmd.specs.Sizes.{stride}
 use Rattle.elmd.proofs.Strides.{stride_is, since_is, stride_fits}

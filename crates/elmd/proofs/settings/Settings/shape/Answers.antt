@@ -1,9 +1,9 @@
-use Rattle.std.proofs.Common.{◌≡◌, ℕ, ◌-◌, ◌*◌, ◌/◌, ◌≤◌, true, false, Some, None, sym, refl, ap, ◌∙◌, arith}
+use Rattle.std.proofs.Common.{◌≡◌, ℕ, sym, refl, ◌∙◌, arith}
 use Rattle.std.proofs.lemmas.Bool.{true≢false}
 use Rattle.elmd.specs.Refusals.{mark_number}
 use Rattle.elmd.specs.Opening.{blocks_of}
 use Rattle.elmd.specs.Stream.{checks}
-use Rattle.elmd.proofs.Shapes.{mark_is, among_some, shape_found, shape_given}
+use Rattle.elmd.proofs.Shapes.{mark_is, shape_found, shape_given}
 use Rattle.elmd.proofs.settings.Settings.shape.Goals as goal
 
 pub returns-then-stream_length-lt17 : goal.returns-then-stream_length-lt17

@@ -1,4 +1,4 @@
-use Rattle.std.proofs.Common.{◌≡◌, ℕ, pred, ◌+◌, ◌-◌, ◌*◌, ◌/◌, false, cond, ◌||◌, eqb, ltb, Ok, Err, sym, refl, ap, ◌∙◌, subst, arith}
+use Rattle.std.proofs.Common.{◌≡◌, ℕ, pred, ◌+◌, ◌-◌, ◌*◌, false, cond, ◌||◌, eqb, ltb, Ok, Err, sym, ap, ◌∙◌, arith}
 use Rattle.std.proofs.lemmas.Bool.{cond-false, or_from, ne_eqb, le-ltb}
 use Rattle.elmd.specs.declared.refusal.Refusal.TheVariants.{MessageLength}
 use Rattle.elmd.specs.Sizes.{stream_size, blocks_in}

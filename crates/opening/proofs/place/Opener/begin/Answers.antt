@@ -1,11 +1,9 @@
-use Rattle.std.proofs.Common.{◌≡◌, ℕ, pred, ◌+◌, ◌*◌, ◌/◌, ◌^◌, ◌<◌, ◌≤◌, List, [], length, take, drop, sym, refl, ap, ◌∙◌, subst, zero-mul, arith}
+use Rattle.std.proofs.Common.{◌≡◌, ℕ, pred, ◌+◌, ◌*◌, ◌/◌, ◌^◌, ◌<◌, ◌≤◌, [], sym, refl, ap, ◌∙◌, subst, zero-mul, arith}
 use Rattle.block.specs.Value.{value, value_lt}
 use Rattle.elmd.specs.declared.settings.Settings.{Settings}
 use Rattle.elmd.specs.Settings.{settings_bytes}
-use Rattle.elmd.specs.Stream.{Frame, t_of}
-use Rattle.elmd.specs.Opening.{Checks}
+use Rattle.elmd.specs.Stream.{t_of}
 use Rattle.elmd.proofs.Counts.{interval_is}
-use Rattle.opening.specs.Reading.{Reads}
 use Rattle.opening.proofs.Passing.{first_reads}
 use Rattle.opening.proofs.Standings.{plain_frame}
 use Rattle.opening.proofs.Openings.{reads_start}

@@ -1,4 +1,4 @@
-use Rattle.std.proofs.Common.{◌≡◌, ℕ, suc, ◌+◌, ◌*◌, ◌<◌, ◌≤◌, Bool, true, false, ◌++◌, length, replicate, sym, refl, ap, ◌∙◌, subst, add-one, arith, rules}
+use Rattle.std.proofs.Common.{◌≡◌, ℕ, ◌+◌, ◌*◌, ◌<◌, ◌≤◌, Bool, ◌++◌, length, replicate, refl, ap, ◌∙◌, subst, arith, rules}
 use mir.Facts.{Fits-lt-pow}
 use Rattle.std.proofs.ByRecursion.{All-from_get_or}
 use Rattle.elmd.specs.declared.refusal.Refusal.TheVariants as why

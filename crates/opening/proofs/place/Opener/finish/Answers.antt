@@ -1,4 +1,4 @@
-use Rattle.std.proofs.Common.{◌≡◌, ℕ, pred, ◌+◌, ◌-◌, ◌*◌, ◌/◌, ◌≤◌, length, replicate, Ok, Err, sym, refl, ap, ◌∙◌, subst, add-zero, div-le_self, arith, rules}
+use Rattle.std.proofs.Common.{◌≡◌, ℕ, pred, ◌*◌, length, replicate, Ok, Err, sym, refl, ap, ◌∙◌, subst, add-zero, div-le_self, arith, rules}
 use Rattle.cipher.specs.Meaning.{Meaning, Lawful}
 use Rattle.elmd.specs.declared.refusal.Refusal.TheVariants as why
 use Rattle.elmd.specs.Stream.{t_of}

@@ -1,4 +1,4 @@
-use Rattle.std.proofs.Common.{◌≡◌, ℕ, ◌+◌, ◌*◌, ◌<◌, ◌≤◌, length, sym, refl, ap, ◌∙◌, subst, arith, rules}
+use Rattle.std.proofs.Common.{ℕ, ◌<◌, ◌≤◌, length, refl, arith, rules}
 use mir.Facts.{Fits-lt-pow}
 use Rattle.std.proofs.ByRecursion.{All-from_get_or}
 use Rattle.opening.proofs.Standings.{end_next, end_le}

@@ -1,4 +1,4 @@
-use Rattle.std.proofs.Common.{◌<◌, arith, rules}
+use Rattle.std.proofs.Common.{arith, rules}
 use Rattle.payfile.proofs.Numerals.{length_most}
 use Rattle.payfile.proofs.heading.FileHeading.new.Goals as goal
 
