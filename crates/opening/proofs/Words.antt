@@ -18,7 +18,7 @@ use Rattle.elmd.proofs.Injective.{injectivity, same_l}
 use Rattle.elmd.proofs.Extend.{extension, checks_hold, message_length}
 use Rattle.elmd.proofs.Finish.{opening, finish, mark_cases}
 use Rattle.opening.specs.Judging.{Cause, FirstBad, BadEnd, Judged}
-use Rattle.opening.specs.Open.{SealOf, through, FirstBadCheck, Judgement}
+use Rattle.opening.specs.Open.{SealOf, through, FirstBadCheck, Judgement, Found}
 use Rattle.opening.proofs.Parts.{cause_map}
 
 -- a check sees only the bytes through it
@@ -153,7 +153,6 @@ module _ (u : Frame) (sound : Sound u) (s : List ℕ) (bytes : Bytes s) (k : ℕ
       record {
         accepts = λ y sy. subst (λ (z : List ℕ). (◌≡◌ {A = Result ℕ Refusal} (Ok n) (Ok (length z))) × (out' ≡ z ++ (replicate (16 * l - length z) 0 ++ drop (16 * l) out))) (only q g.right y sy) (told, all);
         refuses = λ no. absurd (no x (found q g.right));
-        found = λ i w. (x, found q g.right, (cc));
         one = λ a b sa sb. injectivity u sound S k a b sa.0 sb.0 (sa.1 ∙ sym sb.1);
       }
   judgement (Err w) part out out' (z, c) e = record {
@@ -162,6 +161,11 @@ module _ (u : Frame) (sound : Sound u) (s : List ℕ) (bytes : Bytes s) (k : ℕ
       cause_map (FirstBad u s h) (FirstBadCheck u s k) (BadEnd u s k l) (Extends u S k (through u s h)) bad_check (λ b. (extends h (le_refl h)).0 b.checked) w c,
       e ∙ ap (λ (x : List ℕ). x ++ drop (16 * l) out) z,
     );
-    found = λ i x. absurd (let z : ◌≡◌ {A = ℕ} 0 1 = cc in omega arith);
     one = λ a b sa sb. injectivity u sound S k a b sa.0 sb.0 (sa.1 ∙ sym sb.1);
   }
+
+  pub seal_found : (r : Result ℕ Refusal) (part : List ℕ) → Judged u s k l r part → Found u s k r
+  seal_found (Ok n) part (q, g) =
+      let size : n ≡ length (opened u s k l q) = g.counted ∙ sym (opened_length q g.right) in
+      record { found = λ i e. (opened u s k l q, found q g.right, (cc)) }
+  seal_found (Err w) part c = record { found = λ i e. let z : ◌≡◌ {A = ℕ} 0 1 = cc in absurd (omega arith) }

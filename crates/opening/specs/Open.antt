@@ -34,7 +34,6 @@ NoSeal u s k (Err e) = Cause (FirstBadCheck u s k) (Extends u (length s) k (thro
 pub record Judgement (u : Frame) (s : List ℕ) (k : ℕ) (out : List ℕ) (r : Result ℕ Refusal) (out' : List ℕ) : Type 0 where
   pub accepts : (m : List ℕ) → SealOf u s k m → (r ≡ Ok (length m)) × (out' ≡ m ++ (replicate (16 * blocks_of u (length s) - length m) 0 ++ drop (16 * blocks_of u (length s)) out))
   pub refuses : ((m : List ℕ) → SealOf u s k m → ⊥) → NoSeal u s k r × (out' ≡ replicate (16 * blocks_of u (length s)) 0 ++ drop (16 * blocks_of u (length s)) out)
-  pub found : (n : ℕ) → r ≡ Ok n → (m : List ℕ) × SealOf u s k m × (length m ≡ n)
   pub one : (m n : List ℕ) → SealOf u s k m → SealOf u s k n → m ≡ n
 
 -- under settings and a heading that are accepted
@@ -42,7 +41,6 @@ pub record StreamOpened (u : Frame) (s : List ℕ) (k : ℕ) (out : List ℕ) (r
   pub no_length : ((m : List ℕ) → MessageOf u (length s) k m → ⊥) → (r ≡ Err StreamLength) × (out' ≡ out)
   pub no_room : (m : List ℕ) → MessageOf u (length s) k m → length out < 16 * blocks_of u (length s) → (r ≡ Err RoomShort) × (out' ≡ out)
   pub judged : (m : List ℕ) → MessageOf u (length s) k m → 16 * blocks_of u (length s) ≤ length out → Judgement u s k out r out'
-  pub found : (n : ℕ) → r ≡ Ok n → (m : List ℕ) × SealOf u s k m × (length m ≡ n)
 
 -- the first cause of settings and heading comes before all else
 abbrev pub front_answer : Frame → Result Unit Refusal
@@ -51,3 +49,7 @@ front_answer u = next (settings_answer u.cipher.label u.settings) (add_answer 0 
 pub record Opened (u : Frame) (s : List ℕ) (k : ℕ) (out : List ℕ) (r : Result ℕ Refusal) (out' : List ℕ) : Type 0 where
   pub early : (e : Refusal) → front_answer u ≡ Err e → (r ≡ Err e) × (out' ≡ out)
   pub later : front_answer u ≡ Ok tt → StreamOpened u s k out r out'
+
+-- what is accepted is the seal of some message, of the length that is answered
+pub record Found (u : Frame) (s : List ℕ) (k : ℕ) (r : Result ℕ Refusal) : Type 0 where
+  pub found : (n : ℕ) → r ≡ Ok n → (m : List ℕ) × SealOf u s k m × (length m ≡ n)

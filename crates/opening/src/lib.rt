@@ -6,7 +6,7 @@ ghost use Rattle.block.specs.Value.{value};
 ghost use Rattle.elmd.specs.Refusals.{mark_number};
 ghost use Rattle.elmd.specs.Stream.{Frame};
 ghost use Rattle.elmd.specs.Heading.{frame_of, Closes};
-ghost use Rattle.opening.specs.Open.{Opened, StreamOpened};
+ghost use Rattle.opening.specs.Open.{Opened, StreamOpened, Found};
 ghost use Rattle.opening.specs.Judging.{Held, Ends, Judges, Fits};
 
 use block::Block;
@@ -44,6 +44,7 @@ pub fn open<C: Cipher>(
     out: &mut [u8],
 ) -> Result<usize, Refusal>
     ensures opened { Opened (frame_of (C.Cipher.meaning c.old) settings.now nonce.now heading.now) stream.now (mark_number mark) out.old result out.new }
+    ensures found { Found (frame_of (C.Cipher.meaning c.old) settings.now nonce.now heading.now) stream.now (mark_number mark) result }
     ensures same { C.Cipher.meaning c.new ≡ C.Cipher.meaning c.old }
 {
     let mut opened = match open_heading(c, settings, nonce) {
@@ -67,6 +68,7 @@ fn open_closed<C: Cipher>(
     out: &mut [u8],
 ) -> Result<usize, Refusal>
     ensures opened { (u : Frame) → u.cipher ≡ C.Cipher.meaning c.old → Closes u h → StreamOpened u stream.now (mark_number mark) out.old result out.new }
+    ensures found { (u : Frame) → u.cipher ≡ C.Cipher.meaning c.old → Closes u h → Found u stream.now (mark_number mark) result }
     ensures same { C.Cipher.meaning c.new ≡ C.Cipher.meaning c.old }
 {
     let (settings, base, iv) = h.into_parts();

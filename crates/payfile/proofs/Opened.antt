@@ -14,7 +14,7 @@ use Rattle.elmd.specs.Stream.{Frame, blocks, mark, stream}
 use Rattle.elmd.proofs.Finish.{mark_cases}
 use Rattle.elmd.proofs.Lengths.{lengths}
 use Rattle.opening.specs.Open as seal
-use Rattle.opening.specs.Open.{SealOf, StreamOpened, Opened}
+use Rattle.opening.specs.Open.{SealOf, StreamOpened, Opened, Found}
 use Rattle.payfile.specs.declared.refusal.FileRefusal.{FileRefusal}
 use Rattle.payfile.specs.Refusals.{after, of_seal}
 use Rattle.payfile.specs.Layout.{file_of, pay_file, frame_in, stream_in, settings_in, mark_in, nonce_in, heading_in, heading_size, stream_size, front_answer, label_answer}
@@ -107,7 +107,7 @@ module _ (c : Meaning) (file : List ℕ) (bytes : Bytes file) (out : List ℕ) (
   only_by (Ok tt) e n p =
       let both = after_both (front_answer file) (label_answer c.label (settings_in file)) e in
       let l = o.later e in
-      let found = l.2.found n (of_seal_ok l.0 n (sym l.1 ∙ p)) in
+      let found = l.3.found n (of_seal_ok l.0 n (sym l.1 ∙ p)) in
       let u : Frame = frame_in c file in
       let m : List ℕ = found.0 in
       let hm = found.1.0 in
@@ -138,8 +138,8 @@ pub refused : (c : Meaning) (file out : List ℕ) (w : FileRefusal) → file_ans
 refused c file out w e = record { early = λ x p. (let s : w ≡ x = cc in ap (λ (y : FileRefusal). Err y) s, refl); later = λ p. let z : ◌≡◌ {A = ℕ} 0 1 = cc in absurd (omega arith) }
 
 pub judged : (c : Meaning) (file out : List ℕ) (q : Result ℕ Refusal) (out' : List ℕ) (u : Frame) (s : List ℕ) (k : ℕ) → u ≡ frame_in c file → s ≡ stream_in file → k ≡ mark_in file
-    → front_answer file ≡ Ok tt → label_answer c.label (settings_in file) ≡ Ok tt → Opened u s k out q out' → FileOpened c file out (of_seal q) out'
-judged c file out q out' u s k eu es ek ef el o =
+    → front_answer file ≡ Ok tt → label_answer c.label (settings_in file) ≡ Ok tt → Opened u s k out q out' → Found u s k q → FileOpened c file out (of_seal q) out'
+judged c file out q out' u s k eu es ek ef el o w =
     let answer : file_answer c file ≡ Ok tt = ap (λ (x : Result Unit FileRefusal). after x (label_answer c.label (settings_in file))) ef ∙ el in
     let so = sound file ef in
     let short : length (heading_in file) ≤ 65536 = (let a = so.short in simp (length-take, length-drop) (omega arith)) in
@@ -149,9 +149,12 @@ judged c file out q out' u s k eu es ek ef el o =
     let a : Opened (frame_in c file) s k out q out' = subst (λ (v : Frame). Opened v s k out q out') eu o in
     let b : Opened (frame_in c file) (stream_in file) k out q out' = subst (λ (z : List ℕ). Opened (frame_in c file) z k out q out') es a in
     let d : Opened (frame_in c file) (stream_in file) (mark_in file) out q out' = subst (λ (n : ℕ). Opened (frame_in c file) (stream_in file) n out q out') ek b in
+    let x : Found (frame_in c file) s k q = subst (λ (v : Frame). Found v s k q) eu w in
+    let y : Found (frame_in c file) (stream_in file) k q = subst (λ (z : List ℕ). Found (frame_in c file) z k q) es x in
+    let z : Found (frame_in c file) (stream_in file) (mark_in file) q = subst (λ (n : ℕ). Found (frame_in c file) (stream_in file) n q) ek y in
     record {
       early = λ e p. let z : ◌≡◌ {A = ℕ} 0 1 = cc in absurd (omega arith);
-      later = λ p. (q, refl, d.later front);
+      later = λ p. (q, refl, d.later front, z);
     }
 
 after_value : (x : Result Unit FileRefusal) (y : Result ℕ FileRefusal) (n : ℕ) → Ok n ≡ after x y → (x ≡ Ok tt) × (Ok n ≡ y)

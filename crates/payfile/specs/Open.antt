@@ -4,7 +4,7 @@ use Rattle.block.specs.Bytes.{Bytes}
 use Rattle.cipher.specs.Meaning.{Meaning}
 use Rattle.elmd.specs.declared.refusal.Refusal.{Refusal}
 use Rattle.elmd.specs.Stream.{Frame, blocks}
-use Rattle.opening.specs.Open.{StreamOpened}
+use Rattle.opening.specs.Open.{StreamOpened, Found}
 use Rattle.payfile.specs.declared.refusal.FileRefusal.{FileRefusal}
 use Rattle.payfile.specs.Refusals.{after, of_seal}
 use Rattle.payfile.specs.Layout.{pay_file, frame_in, stream_in, settings_in, mark_in, front_answer, label_answer}
@@ -16,7 +16,7 @@ file_answer c file = after (front_answer file) (label_answer c.label (settings_i
 -- it comes before all else; then the seal in the file is opened whole
 pub record FileOpened (c : Meaning) (file out : List ℕ) (r : Result ℕ FileRefusal) (out' : List ℕ) : Type 0 where
   pub early : (e : FileRefusal) → file_answer c file ≡ Err e → (r ≡ Err e) × (out' ≡ out)
-  pub later : file_answer c file ≡ Ok tt → (q : Result ℕ Refusal) × (r ≡ of_seal q) × StreamOpened (frame_in c file) (stream_in file) (mark_in file) out q out'
+  pub later : file_answer c file ≡ Ok tt → (q : Result ℕ Refusal) × (r ≡ of_seal q) × StreamOpened (frame_in c file) (stream_in file) (mark_in file) out q out' × Found (frame_in c file) (stream_in file) (mark_in file) q
 
 -- what a file can be laid out round: a message and all that it is sealed under
 pub record Filed (u : Frame) (m : List ℕ) : Type 0 where

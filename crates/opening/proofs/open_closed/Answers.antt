@@ -6,15 +6,15 @@ use Rattle.cipher.specs.Meaning.{Meaning, Lawful}
 use Rattle.elmd.specs.declared.settings.Settings.{Settings}
 use Rattle.elmd.specs.Settings.{settings_bytes}
 use Rattle.elmd.specs.Refusals.{mark_number}
-use Rattle.elmd.specs.Heading.{frame_of}
+use Rattle.elmd.specs.Stream.{Frame, iv}
+use Rattle.elmd.specs.Heading.{frame_of, Closes}
 use Rattle.elmd.specs.Opening.{blocks_of}
 use Rattle.elmd.specs.declared.refusal.Refusal.{Refusal}
-use Rattle.elmd.specs.Laws.{Sound, MessageOf}
-use Rattle.opening.specs.Open.{Judgement}
+use Rattle.elmd.specs.Laws.{Sound}
 use Rattle.elmd.proofs.Counts.{interval_is}
 use Rattle.opening.specs.Judging.{Judged}
 use Rattle.opening.proofs.Passing.{first_reads}
-use Rattle.opening.proofs.Words.{judgement}
+use Rattle.opening.proofs.Words.{judgement, seal_found}
 use Rattle.opening.proofs.open_closed.Goals as goal
 
 err_not_ok : {e : Refusal} {n : ℕ} → ◌≡◌ {A = Result ℕ Refusal} (Err e) (Ok n) → ⊥
@@ -35,8 +35,8 @@ returns-then-out-n g c = record {
         no_length = λ no. absurd (no laid.possible.0 laid.possible.1);
         no_room = λ m hm lt. (refl, refl);
         judged = λ m hm room. absurd (let t = c.if-out-n.true in omega arith);
-        found = λ n e. absurd (err_not_ok e);
       };
+  found = λ u ec cl. record { found = λ n e. absurd (err_not_ok e) };
   same = refl;
 }
 
@@ -59,29 +59,35 @@ open_part-requires g c =
     )
 
 pub returns : goal.returns
-returns g c = record {
-  opened = λ u ec cl.
-      let parts = c.into_parts.ensures in
-      let set : settings_bytes c.into_parts.result.0 ≡ u.settings = ap (λ (x : Settings). settings_bytes x) (ap (λ q. q.0) parts) ∙ cl.chosen in
-      let bas = ap (λ q. value q.1) parts ∙ cl.based in
-      let ivs = ap (λ q. value q.2) parts ∙ cl.started in
-      let laid = c.in-Ok.ensures u set in
-      let l = laid.l_is in
-      let s = c.args.stream.now in
-      let first = first_reads u s c.into_parts.result.1 _ bas ivs refl c.times5.ensures c.new.ensures refl refl in
-      let found = c.open_part.ensures.judged u ec set first in
-      let sound : Sound u = record { lawful = subst (λ (m : Meaning). Lawful m) (sym ec) (g.met.C.Cipher.lawful c.args.c.now); iv_lt = (let b = value_lt c.into_parts.result.2 in subst (λ (n : ℕ). n < 2 ^ 128) ivs b) } in
-      let bytes = All-from_get_or (λ (x : ℕ). x < 256) s 0 (λ i h. Fits-lt-pow (c.type_inv.stream i)) in
-      let none : 16 * c.in-Ok.shape.blocks - 0 ≡ 16 * blocks_of u (length s) = omega arith in
-      let judge : (m : List ℕ) → MessageOf u (length s) (mark_number c.args.mark) m → Judgement u s (mark_number c.args.mark) c.args.out.now c.open_part.result _ =
-      λ m hm. judgement u sound s bytes (mark_number c.args.mark) m hm c.open_part.result c.open_part.new.part c.args.out.now _
-      (subst (λ (n : ℕ). Judged u s (mark_number c.args.mark) n c.open_part.result c.open_part.new.part) l found)
-      (ap (λ (n : ℕ). c.open_part.new.part ++ drop n c.args.out.now) none) in
-      record {
-        no_length = λ no. absurd (no laid.possible.0 laid.possible.1);
-        no_room = λ m hm lt. absurd (let t = c.if-out-n.false in omega arith);
-        judged = λ m hm room. judge m hm;
-        found = (judge laid.possible.0 laid.possible.1).found;
-      };
-  same = c.open_part.ensures.same;
-}
+returns g c =
+    let s = c.args.stream.now in
+    let k = mark_number c.args.mark in
+    let judged : (u : Frame) → u.cipher ≡ g.C.Cipher.meaning c.args.c.now → Closes u c.args.h → Sound u × Judged u s k (blocks_of u (length s)) c.open_part.result c.open_part.new.part =
+    λ u ec cl.
+        let parts = c.into_parts.ensures in
+        let set : settings_bytes c.into_parts.result.0 ≡ u.settings = ap (λ (x : Settings). settings_bytes x) (ap (λ q. q.0) parts) ∙ cl.chosen in
+        let bas = ap (λ q. value q.1) parts ∙ cl.based in
+        let ivs = ap (λ q. value q.2) parts ∙ cl.started in
+        let l = (c.in-Ok.ensures u set).l_is in
+        let first = first_reads u s c.into_parts.result.1 _ bas ivs refl c.times5.ensures c.new.ensures refl refl in
+        let lawful : Lawful u.cipher = subst (λ (m : Meaning). Lawful m) (sym ec) (g.met.C.Cipher.lawful c.args.c.now) in
+        let small : iv u < 2 ^ 128 = (let b = value_lt c.into_parts.result.2 in subst (λ (n : ℕ). n < 2 ^ 128) ivs b) in
+        (record { lawful = lawful; iv_lt = small }, subst (λ (n : ℕ). Judged u s k n c.open_part.result c.open_part.new.part) l (c.open_part.ensures.judged u ec set first)) in
+    let bytes = All-from_get_or (λ (x : ℕ). x < 256) s 0 (λ i h. Fits-lt-pow (c.type_inv.stream i)) in
+    record {
+      opened = λ u ec cl.
+          let j = judged u ec cl in
+          let laid = c.in-Ok.ensures u (ap (λ (x : Settings). settings_bytes x) (ap (λ q. q.0) c.into_parts.ensures) ∙ cl.chosen) in
+          let l = laid.l_is in
+          let none : 16 * c.in-Ok.shape.blocks - 0 ≡ 16 * blocks_of u (length s) = omega arith in
+          record {
+            no_length = λ no. absurd (no laid.possible.0 laid.possible.1);
+            no_room = λ m hm lt. absurd (let t = c.if-out-n.false in omega arith);
+            judged = λ m hm room. judgement u j.0 s bytes k m hm c.open_part.result c.open_part.new.part c.args.out.now _ j.1 (ap (λ (n : ℕ). c.open_part.new.part ++ drop n c.args.out.now) none);
+          };
+      found = λ u ec cl.
+          let j = judged u ec cl in
+          let p = (c.in-Ok.ensures u (ap (λ (x : Settings). settings_bytes x) (ap (λ q. q.0) c.into_parts.ensures) ∙ cl.chosen)).possible in
+          seal_found u j.0 s bytes k p.0 p.1 c.open_part.result c.open_part.new.part j.1;
+      same = c.open_part.ensures.same;
+    }

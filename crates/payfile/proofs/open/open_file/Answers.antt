@@ -49,7 +49,7 @@ core g c =
     ∙ ap (λ (n : ℕ). frame_of m (settings_in file) (nonce_in file) (take n (drop 26 file))) size in
     let stream : take (length file - (26 + c.in-Ok.front.heading)) (drop (26 + c.in-Ok.front.heading) file) ≡ stream_in file =
     take_rest file (26 + c.in-Ok.front.heading) ∙ ap (λ (n : ℕ). drop (26 + n) file) f.heading_is in
-    judged m file c.args.out.now c.open.result c.open.new.out _ _ _ frame stream f.mark_is (sym c.in-Ok.ensures.answer) label c.open.ensures.opened
+    judged m file c.args.out.now c.open.result c.open.new.out _ _ _ frame stream f.mark_is (sym c.in-Ok.ensures.answer) label c.open.ensures.opened c.open.ensures.found
 
 pub returns-in-Ok-open : goal.returns-in-Ok-open
 returns-in-Ok-open g c =
