@@ -40,6 +40,8 @@ OTHERWISE = {
     "tag_fits": "tag_fits_lem",
 }
 COMMENT = re.compile(r"(?<![^\s(){}.;,@\"«»])--[^\n]*")
+# Two lemmas, each beside a definition that gets their name; where the definition has it already they have moved.
+MET = {"block_in": "blockIn", "tag_fits": "tagFits"}
 LEFT = {"S", "λ", "let", "in", "use", "|", "cond-false", "drop-set-lt"}  # the last two are the library's too
 MADE = re.compile(r"^(goal|need|rules)\.")
 
@@ -92,8 +94,11 @@ def declared(root):
 
 def table(root):
     rows = {}
-    for name in declared(root):
+    own = declared(root)
+    for name in own:
         new = OTHERWISE.get(name) or snake(name)
+        if name in MET and MET[name] not in own:
+            continue
         if new != name:
             rows[name] = new
     return rows
@@ -125,7 +130,12 @@ def turn_antt(text, rows, path):
             return w
         return rows[w]
 
-    return re.sub(WORD, word, text)
+    text = re.sub(WORD, word, text)
+    # The library's word All goes by index now; the definitions here go by recursion, and say so.
+    if "{AllByRecursion as All}" in text:
+        text = re.sub(WORD, lambda m: "AllByRecursion" if m.group(0) == "All" else m.group(0), text)
+        text = text.replace("{AllByRecursion as AllByRecursion}", "{AllByRecursion}")
+    return text
 
 
 CLAUSE = re.compile(r"(?:requires|ensures)\s*\*?\s*(?:\w+\s*)?\{|ghost\s*(?:\w+\s*(?::\s*)?=?\s*)?\{|ghost\s+use\b|invariant\b[^{;]*\{")

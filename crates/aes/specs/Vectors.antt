@@ -1,6 +1,6 @@
 -- The worked examples of FIPS 197, appendices B and C.1: key, plaintext, ciphertext.
 use Rattle.std.specs.Prelude.{◌≡◌, ℕ, List, [], ◌∷◌}
-use Rattle.std.specs.List.{AllByRecursion as All}
+use Rattle.std.specs.List.{AllByRecursion}
 use Rattle.cipher.specs.Meaning.{Meaning}
 
 abbrev pub Vector : Type 0
@@ -19,4 +19,4 @@ vectors6 =
 
 -- a cipher does each both ways
 abbrev pub Meets : (ℕ → Meaning) → List Vector → Type 0
-Meets c vs = All (λ v. ((c v.0).enc v.1 ≡ v.2) × ((c v.0).dec v.2 ≡ v.1)) vs
+Meets c vs = AllByRecursion (λ v. ((c v.0).enc v.1 ≡ v.2) × ((c v.0).dec v.2 ≡ v.1)) vs

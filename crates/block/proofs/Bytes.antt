@@ -4,7 +4,7 @@ use Rattle.std.proofs.lemmas.List.{drop_all, drop_more}
 use lib.Arith.{digits_div, digits_lt}
 use Rattle.std.proofs.lemmas.Nat.{mod-pow-add, shr-shr, shr_high}
 use Rattle.block.specs.Bytes.{of_bytes, bytes_by, bytes_of, BytesBack, NumberBack}
-use Rattle.std.specs.List.{AllByRecursion as All}
+use Rattle.std.specs.List.{AllByRecursion}
 use native.Mathlib.Nat.{add-mul-div_right}
 
 pub length_bytes_by : (k n : ℕ) → length (bytes_by k n) ≡ k
@@ -33,11 +33,11 @@ low_bytes (suc k) q n =
     ap (λ (m : ℕ). m / w) (add_comm ((q * 256) * w) n) ∙ add-mul-div_right n (q * 256) (pow_pos (8 * k)) ∙ add_comm (n / w) (q * 256) in
     rw (e, low_bytes k (q * 256) n, head) (ap (λ (m : ℕ). m ∷ bytes_by k n) (omega arith))
 
-pub of_bytes_lt : (xs : List ℕ) → All (λ x. x < 256) xs → of_bytes xs < 2 ^ (8 * length xs)
+pub of_bytes_lt : (xs : List ℕ) → AllByRecursion (λ x. x < 256) xs → of_bytes xs < 2 ^ (8 * length xs)
 of_bytes_lt [] h = omega arith
 of_bytes_lt (x ∷ xs) (p, h) = rw (more (length xs), pow-add 2 8 (8 * length xs)) (digits_lt p (of_bytes_lt xs h))
 
-pub bytes_by_of_bytes : (xs : List ℕ) → All (λ x. x < 256) xs → bytes_by (length xs) (of_bytes xs) ≡ xs
+pub bytes_by_of_bytes : (xs : List ℕ) → AllByRecursion (λ x. x < 256) xs → bytes_by (length xs) (of_bytes xs) ≡ xs
 bytes_by_of_bytes [] h = refl
 bytes_by_of_bytes (x ∷ xs) (p, h) =
     rw (digits_div x (of_bytes_lt xs h), low_bytes (length xs) x (of_bytes xs), bytes_by_of_bytes xs h) (ap (λ (m : ℕ). m ∷ xs) (omega arith))

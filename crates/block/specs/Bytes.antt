@@ -1,6 +1,6 @@
 -- The bytes of a number, highest first, and the number of bytes.
 use Rattle.std.specs.Prelude.{◌≡◌, ℕ, zero, suc, ◌+◌, ◌-◌, ◌*◌, ◌/◌, ◌%◌, ◌^◌, ◌<◌, List, [], ◌∷◌, ◌++◌, length, take, replicate}
-use Rattle.std.specs.List.{AllByRecursion as All}
+use Rattle.std.specs.List.{AllByRecursion}
 
 abbrev pub of_bytes : List ℕ → ℕ
 of_bytes [] = 0
@@ -18,7 +18,7 @@ abbrev pub padded : List ℕ → List ℕ
 padded bs = bs ++ take (16 - length bs) (0x80 ∷ replicate 15 0)
 
 abbrev pub Bytes : List ℕ → Type 0
-Bytes xs = All (λ b. b < 256) xs
+Bytes xs = AllByRecursion (λ b. b < 256) xs
 
 abbrev pub BytesBack : Type 0
 BytesBack = (n : ℕ) → n < 2 ^ 128 → of_bytes (bytes_of n) ≡ n
