@@ -1,4 +1,4 @@
-use Rattle.std.proofs.Common.{◌≡◌, ℕ, pred, ◌-◌, ◌*◌, ◌/◌, ◌^◌, ◌<◌, List, [], ◌++◌, length, drop, Ok, Err, Result, sym, refl, ap, ◌∙◌, subst, arith, length-take}
+use Rattle.std.proofs.Common.{◌≡◌, ℕ, pred, ◌-◌, ◌*◌, ◌/◌, ◌^◌, ◌<◌, [], ◌++◌, length, drop, Ok, Err, Result, sym, refl, ap, ◌∙◌, subst, arith, length-take}
 use mir.Facts.{Fits-lt-pow}
 use Rattle.std.proofs.ByRecursion.{All-from_get_or}
 use Rattle.block.specs.Value.{value, value_lt}
@@ -64,15 +64,15 @@ returns g c =
     let k = mark_number c.args.mark in
     let judged : (u : Frame) → u.cipher ≡ g.C.Cipher.meaning c.args.c.now → Closes u c.args.h → Sound u × Judged u s k (blocks_of u (length s)) c.open_part.result c.open_part.new.part =
     λ u ec cl.
-        let parts = c.into_parts.ensures in
-        let set : settings_bytes c.into_parts.result.0 ≡ u.settings = ap (λ (x : Settings). settings_bytes x) (ap (λ q. q.0) parts) ∙ cl.chosen in
-        let bas = ap (λ q. value q.1) parts ∙ cl.based in
-        let ivs = ap (λ q. value q.2) parts ∙ cl.started in
-        let l = (c.in-Ok.ensures u set).l_is in
-        let first = first_reads u s c.into_parts.result.1 _ bas ivs refl c.times5.ensures c.new.ensures refl refl in
-        let lawful : Lawful u.cipher = subst (λ (m : Meaning). Lawful m) (sym ec) (g.met.C.Cipher.lawful c.args.c.now) in
-        let small : iv u < 2 ^ 128 = (let b = value_lt c.into_parts.result.2 in subst (λ (n : ℕ). n < 2 ^ 128) ivs b) in
-        (record { lawful = lawful; iv_lt = small }, subst (λ (n : ℕ). Judged u s k n c.open_part.result c.open_part.new.part) l (c.open_part.ensures.judged u ec set first)) in
+    let parts = c.into_parts.ensures in
+    let set : settings_bytes c.into_parts.result.0 ≡ u.settings = ap (λ (x : Settings). settings_bytes x) (ap (λ q. q.0) parts) ∙ cl.chosen in
+    let bas = ap (λ q. value q.1) parts ∙ cl.based in
+    let ivs = ap (λ q. value q.2) parts ∙ cl.started in
+    let l = (c.in-Ok.ensures u set).l_is in
+    let first = first_reads u s c.into_parts.result.1 _ bas ivs refl c.times5.ensures c.new.ensures refl refl in
+    let lawful : Lawful u.cipher = subst (λ (m : Meaning). Lawful m) (sym ec) (g.met.C.Cipher.lawful c.args.c.now) in
+    let small : iv u < 2 ^ 128 = (let b = value_lt c.into_parts.result.2 in subst (λ (n : ℕ). n < 2 ^ 128) ivs b) in
+    (record { lawful = lawful; iv_lt = small }, subst (λ (n : ℕ). Judged u s k n c.open_part.result c.open_part.new.part) l (c.open_part.ensures.judged u ec set first)) in
     let bytes = All-from_get_or (λ (x : ℕ). x < 256) s 0 (λ i h. Fits-lt-pow (c.type_inv.stream i)) in
     record {
       opened = λ u ec cl.
