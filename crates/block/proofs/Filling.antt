@@ -1,7 +1,6 @@
 -- A short block's filling.
-use Rattle.std.proofs.Common.{◌≡◌, ℕ, suc, ◌+◌, ◌-◌, ◌<◌, ◌≤◌, min, List, ◌∷◌, ◌++◌, length, take, drop, set, replicate, sym, refl, ap, ◌∙◌, ⊎_elim, arith, length-append, length-drop, length-take}
-use Rattle.std.proofs.lemmas.Bool.{cases_lt}
-use Rattle.std.proofs.lemmas.List.{append-nil, take_all, take_rest, take-replicate, drop_all, drop-replicate, set_at}
+use Rattle.std.proofs.Common.{◌≡◌, ℕ, suc, ◌-◌, ◌<◌, ◌≤◌, List, ◌∷◌, ◌++◌, length, take, drop, set, replicate, sym, refl, ap, ◌∙◌, arith, length-append, length-take}
+use Rattle.std.proofs.lemmas.List.{append-nil, take-replicate, drop-replicate, set_at}
 use Rattle.block.specs.Bytes.{padded, Filled}
 
 pub padded_whole : (bs : List ℕ) → length bs ≡ 16 → padded bs ≡ bs
@@ -25,11 +24,3 @@ fill_set tail h =
     let e : 16 - n ≡ suc (15 - n) = omega arith in
     ap (λ (z : List ℕ). set (tail ++ z) n 0x80) (drop-replicate n 16 0 ∙ ap (λ (k : ℕ). replicate k 0) e)
     ∙ set_at tail 0 (replicate (15 - n) 0) 0x80 n refl ∙ sym ((filled_is tail).1 h)
-
--- what is loaded from `at` on, where sixteen bytes are not there
-pub tail_same : (bytes : List ℕ) (at m : ℕ) → m ≡ min at (length bytes) → length bytes < at + 16 → take (length bytes - m) (drop m bytes) ≡ take 16 (drop at bytes)
-tail_same bytes at m e h =
-    let n : ℕ = length bytes in
-    take_rest bytes m
-    ∙ ⊎_elim (λ l. ap (λ (k : ℕ). drop k bytes) (let z : m ≡ at = omega arith in z)) (λ g. drop_all m bytes (omega arith) ∙ sym (drop_all at bytes g)) (cases_lt at n)
-    ∙ sym (take_all 16 (drop at bytes) (simp length-drop (omega arith)))

@@ -2,6 +2,7 @@
 #![tactic(auto)]
 
 ghost use Rattle.std.specs.Prelude.{◌≡◌, ℕ, ◌+◌, ◌-◌, ◌*◌, ◌/◌, ◌%◌, ◌^◌, ◌<◌, ◌≤◌, ◌++◌, length, take, drop, ◌==◌, bit_xor};
+ghost use Rattle.std.proofs.Common.{rules};
 ghost use Rattle.block.specs.Value.{value};
 ghost use Rattle.block.specs.Field.{dbl, half, three, five, seven, mix, unmix, Undone, Unmixed, ByCases, Linear};
 ghost use Rattle.block.specs.Bytes.{of_bytes, bytes_of, padded, BytesBack, NumberBack, Filled};
@@ -21,13 +22,6 @@ impl Block {
         ensures { value result ≡ bit_xor (value self) (value other) }
     {
         Block::new(self.hi ^ other.hi, self.lo ^ other.lo)
-    }
-
-    // Whether the two are equal, in the same time wherever they differ.
-    pub fn same(self, other: Block) -> bool
-        ensures { result ≡ (value self == value other) }
-    {
-        ((self.hi ^ other.hi) | (self.lo ^ other.lo)) == 0
     }
 
     pub fn double(self) -> Block
@@ -67,6 +61,7 @@ impl Block {
         self.times3().double().xor(self)
     }
 
+    // Named as the integers' own `from_be_bytes` and `to_be_bytes`, and no `From`, which would not say that these are its bytes.
     pub fn from_bytes(b: &[u8; 16]) -> Block
         ensures { value result ≡ of_bytes b.now }
     {
@@ -92,10 +87,10 @@ impl Block {
         ensures { value result ≡ of_bytes (padded (take 16 (drop at bytes.now))) }
     {
         let n = bytes.len();
-        if at < n && n - at >= 16 {
-            whole(&bytes[at..at + 16])
-        } else {
-            filled(&bytes[at.min(n)..n])
+        let rest = &bytes[at.min(n)..n];
+        match rest.first_chunk() {
+            Some(whole) => Block::from_bytes(whole),
+            None => filled(rest),
         }
     }
 
@@ -112,14 +107,19 @@ impl Block {
     }
 }
 
-fn whole(b: &[u8]) -> Block
-    requires { length b.now ≡ 16 }
-    ensures { value result ≡ of_bytes b.now }
-{
-    Block::new(
-        u64::from_be_bytes([b[0], b[1], b[2], b[3], b[4], b[5], b[6], b[7]]),
-        u64::from_be_bytes([b[8], b[9], b[10], b[11], b[12], b[13], b[14], b[15]]),
-    )
+// Takes the same time wherever the two differ, since what is compared may be secret.
+impl PartialEq for Block {
+    ghost eq = { λ a b. value a == value b };
+
+    ghost laws = { Prim.search rules };
+
+    fn eq(&self, other: &Block) -> bool {
+        ((self.hi ^ other.hi) | (self.lo ^ other.lo)) == 0
+    }
+}
+
+impl Eq for Block {
+    ghost laws = { Prim.search rules };
 }
 
 fn filled(tail: &[u8]) -> Block

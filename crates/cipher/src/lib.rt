@@ -8,7 +8,8 @@ ghost use Rattle.cipher.specs.Paper.{paper_lawful};
 
 use block::Block;
 
-// Every call answers and keeps the meaning; an implementation may count, cache or drive a device.
+// Every call answers and keeps the meaning; an implementation may count, cache or drive a device. So the calls take `&mut`,
+// and each function of the crates above that calls a cipher promises that its meaning stays: the clause `same`.
 pub trait Cipher {
     ghost meaning: { Self → Meaning };
 
@@ -20,6 +21,7 @@ pub trait Cipher {
         ensures value { value result ≡ (meaning self.old).dec (value b) }
         ensures same { meaning self.new ≡ meaning self.old };
 
+    // A byte, and no enum: a label is a byte of the settings, any byte may stand there, and `for_label` makes the kind of it.
     fn label(&mut self) -> u8
         ensures value { result ≡ (meaning self.old).label }
         ensures same { meaning self.new ≡ meaning self.old };
@@ -32,6 +34,7 @@ pub trait Cipher {
 }
 
 // L, from which every mask is made.
+#[tactic(auto, unfolding(crate::specs::Meaning::base, block::specs::Value::value))]
 pub fn base_block<C: Cipher>(c: &mut C) -> Block
     ensures value { value result ≡ base (C.Cipher.meaning c.old) }
     ensures same { C.Cipher.meaning c.new ≡ C.Cipher.meaning c.old }
@@ -80,6 +83,7 @@ impl<C: Cipher> Cipher for Counting<C> {
 
     ghost lawful = { λ s. C.Cipher.lawful s.inner };
 
+    // One text for this and `decrypt` would take the inner call as a closure, and be longer.
     fn encrypt(&mut self, b: Block) -> Block
         ensures value { value result ≡ (C.Cipher.meaning self.old.inner).enc (value b) }
         ensures same { C.Cipher.meaning self.new.inner ≡ C.Cipher.meaning self.old.inner }

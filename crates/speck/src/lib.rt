@@ -1,9 +1,10 @@
 // The block cipher Speck128/128. Its time depends on neither the key nor the block.
 #![tactic(auto)]
 
-ghost use Rattle.std.specs.Prelude.{◌≡◌, true, slice_index};
+ghost use Rattle.std.specs.Prelude.{◌≡◌, true, reverse};
+ghost use Rattle.std.specs.List.{fold};
 ghost use Rattle.block.specs.Value.{value, value_lt};
-ghost use Rattle.speck.specs.Speck.{round, unround, rounds, unrounds, speck, vector_key, vector_plaintext, vector_ciphertext, Published};
+ghost use Rattle.speck.specs.Speck.{round, unround, speck, vector_key, vector_plaintext, vector_ciphertext, Published};
 ghost use Rattle.speck.specs.Held.{meaning_of};
 ghost use Rattle.speck.specs.Rounds.{speck_lawful};
 
@@ -20,9 +21,9 @@ impl Speck {
     {
         let mut round_keys = [0u64; 32];
         let mut words = (key.hi, key.lo);
-        for i in 0..32u64 {
-            round_keys[i as usize] = words.1;
-            words = rounded(i, words);
+        for (i, round_key) in round_keys.iter_mut().enumerate() {
+            *round_key = words.1;
+            words = rounded(i as u64, words);
         }
         Speck { key, round_keys }
     }
@@ -34,13 +35,13 @@ impl Cipher for Speck {
     ghost lawful = { λ s. speck_lawful (value s.key) (value_lt s.key) };
 
     fn encrypt(&mut self, b: Block) -> Block {
-        let s = encrypted_words(&self.round_keys, (b.hi, b.lo));
-        Block::new(s.0, s.1)
+        let (x, y) = encrypted_words(&self.round_keys, (b.hi, b.lo));
+        Block::new(x, y)
     }
 
     fn decrypt(&mut self, b: Block) -> Block {
-        let s = decrypted_words(&self.round_keys, (b.hi, b.lo));
-        Block::new(s.0, s.1)
+        let (x, y) = decrypted_words(&self.round_keys, (b.hi, b.lo));
+        Block::new(x, y)
     }
 
     fn label(&mut self) -> u8 {
@@ -61,7 +62,7 @@ pub fn self_test() -> bool
     let mut speck = Speck::new(key);
     let forth = speck.encrypt(plaintext);
     let back = speck.decrypt(ciphertext);
-    forth.same(ciphertext) & back.same(plaintext)
+    (forth == ciphertext) & (back == plaintext)
 }
 
 fn test_vector() -> (Block, Block, Block)
@@ -77,23 +78,16 @@ fn test_vector() -> (Block, Block, Block)
 }
 
 fn encrypted_words(keys: &[u64; 32], words: (u64, u64)) -> (u64, u64)
-    ensures { result ≡ rounds 32 (λ i. slice_index keys.now i) words }
+    ensures { result ≡ fold (λ s k. round k s) words keys.now }
 {
-    let mut s = words;
-    for i in 0..32usize {
-        s = rounded(keys[i], s);
-    }
-    s
+    keys.iter().fold(words, |s, k| rounded(*k, s))
 }
 
+// The inverse undoes the rounds from the last on, so it folds the other way, by another step.
 fn decrypted_words(keys: &[u64; 32], words: (u64, u64)) -> (u64, u64)
-    ensures { result ≡ unrounds 32 (λ i. slice_index keys.now i) words }
+    ensures { result ≡ fold (λ s k. unround k s) words (reverse keys.now) }
 {
-    let mut s = words;
-    for i in (0..32usize).rev() {
-        s = unrounded(keys[i], s);
-    }
-    s
+    keys.iter().rev().fold(words, |s, k| unrounded(*k, s))
 }
 
 fn rounded(k: u64, s: (u64, u64)) -> (u64, u64)

@@ -14,6 +14,6 @@ returns c =
     let back = published_back in
     let forth-is : value c.encrypt-forth.result ≡ ciphertext = cc in
     let back_is : value c.decrypt-back.result ≡ plaintext = cc in
-    let a : c.same.result ≡ true = c.same.ensures ∙ eq-eqb _ _ forth-is in
-    let b : c.same-2.result ≡ true = c.same-2.ensures ∙ eq-eqb _ _ back_is in
+    let a : c.eq.result ≡ true = c.eq.ensures ∙ eq-eqb _ _ forth-is in
+    let b : c.eq-2.result ≡ true = c.eq-2.ensures ∙ eq-eqb _ _ back_is in
     record { published = published; passes = rw (a, b) }

@@ -1,9 +1,12 @@
-use Rattle.std.proofs.Common.{get_or, refl, ap, ◌∙◌}
+use Rattle.std.proofs.Common.{get_or, refl, ap, ◌∙◌, arith}
 use Rattle.speck.specs.Speck.{join}
 use Rattle.speck.specs.Rounds.{unrounds_value}
+use Rattle.speck.proofs.Folds.{unrounds_folded}
 use Rattle.speck.proofs.SpeckCipher.decrypt.Goals as goal
 
 pub returns : goal.returns
 returns c =
     let self = c.args.self.now in
-    record { value = c.new.ensures ∙ ap join c.decrypted_words-s.ensures ∙ unrounds_value self.key c.args.b (λ i. get_or self.round_keys i 0) self.scheduled; same = refl }
+    let keys = self.round_keys in
+    let words = c.decrypted_words-x.ensures ∙ unrounds_folded keys _ (omega arith) in
+    record { value = c.new.ensures ∙ ap join words ∙ unrounds_value self.key c.args.b (λ i. get_or keys i 0) self.scheduled; same = refl }
