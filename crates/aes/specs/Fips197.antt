@@ -17,12 +17,15 @@ sub_bytes s = state (λ i. sbox (slice_index s i))
 unfoldable pub inv_sub_bytes : List ℕ → List ℕ
 inv_sub_bytes s = state (λ i. inv_sbox (slice_index s i))
 
--- row r, the places i with i % 4 ≡ r, moves by r columns
-unfoldable pub shift_rows : List ℕ → List ℕ
-shift_rows s = state (λ i. slice_index s ((i + 4 * (i % 4)) % 16))
+-- row r, the places i with i % 4 ≡ r, moves by r columns of n places, forwards by 4 and back by 12
+unfoldable pub shift_by : ℕ → List ℕ → List ℕ
+shift_by n s = state (λ i. slice_index s ((i + n * (i % 4)) % 16))
 
-unfoldable pub inv_shift_rows : List ℕ → List ℕ
-inv_shift_rows s = state (λ i. slice_index s ((i + 12 * (i % 4)) % 16))
+abbrev pub shift_rows : List ℕ → List ℕ
+shift_rows = shift_by 4
+
+abbrev pub inv_shift_rows : List ℕ → List ℕ
+inv_shift_rows = shift_by 12
 
 unfoldable pub add_round_key : List ℕ → List ℕ → List ℕ
 add_round_key k s = state (λ i. bit_xor (slice_index s i) (slice_index k i))
@@ -107,6 +110,10 @@ enc last n key b = of_bytes (encipher last n (key_schedule (bytes_of key)) (byte
 
 unfoldable pub dec : Bool → ℕ → ℕ → ℕ → ℕ
 dec last n key b = of_bytes (decipher last n (key_schedule (bytes_of key)) (bytes_of b))
+
+-- n full rounds, with a last round behind them or without one, under a key
+abbrev pub by_rounds : Bool → ℕ → ℕ → Bool → ℕ → Meaning
+by_rounds last n label double key = record { enc = enc last n key; dec = dec last n key; label = label; double = double }
 
 -- AES-128
 abbrev pub aes10 : ℕ → Meaning

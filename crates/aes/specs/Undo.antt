@@ -11,7 +11,7 @@ use Rattle.gf256.specs.Sbox.{inv_sbox, sbox}
 use Rattle.gf256.proofs.Boxes.{sbox_lt, inv_sbox_lt, inv_sbox_lem, sbox_inv}
 use Rattle.gf256.proofs.Linear.{gmul_lt, xtime_lt}
 use Rattle.gf256.proofs.Mixing.{unmix_mix, mix_unmix}
-use Rattle.aes.specs.Fips197.{state, sub_bytes, inv_sub_bytes, shift_rows, inv_shift_rows, add_round_key, word, mix_by, mix_columns, inv_mix_columns, round, inv_round, last_round, inv_last_round, turned, next_key, rcon, round_key, key_schedule, rounds, inv_rounds, encipher, decipher}
+use Rattle.aes.specs.Fips197.{state, sub_bytes, inv_sub_bytes, shift_by, shift_rows, inv_shift_rows, add_round_key, word, mix_by, mix_columns, inv_mix_columns, round, inv_round, last_round, inv_last_round, turned, next_key, rcon, round_key, key_schedule, rounds, inv_rounds, encipher, decipher}
 
 -- sixteen bytes
 abbrev pub Good : List ℕ → Type 0
@@ -54,14 +54,14 @@ unsub_undo = record {
 }
 
 shift_undo : Undo shift_rows inv_shift_rows
-unfolding shift_rows inv_shift_rows
+unfolding shift_by
 shift_undo = record {
   keeps = λ s g. good_state (λ i. slice_index s ((i + 4 * (i % 4)) % 16)) (λ i h. g.1 _ (mod-lt (i + 4 * (i % 4)) (lit< tt)));
   back = λ s g. is_state (λ i. slice_index s i) s g (λ i h. refl);
 }
 
 unshift_undo : Undo inv_shift_rows shift_rows
-unfolding shift_rows inv_shift_rows
+unfolding shift_by
 unshift_undo = record {
   keeps = λ s g. good_state (λ i. slice_index s ((i + 12 * (i % 4)) % 16)) (λ i h. g.1 _ (mod-lt (i + 12 * (i % 4)) (lit< tt)));
   back = λ s g. is_state (λ i. slice_index s i) s g (λ i h. refl);

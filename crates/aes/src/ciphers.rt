@@ -1,51 +1,62 @@
-// Both are ciphers: full rounds, with a last round behind them or without one.
-ghost use Rattle.aes.specs.Fips197.{aes10, aes6, key_of};
-ghost use Rattle.aes.specs.Lawful.{aes10_lawful, aes6_lawful};
+// One cipher for each key schedule and variant: the schedule keeps the key, and the variant says the rest.
+ghost use Rattle.std.specs.Prelude.{◌≡◌, ℕ};
+ghost use Rattle.block.specs.Bytes.{of_bytes};
+ghost use Rattle.block.specs.Value.{value};
 
-use super::{Aes6, Aes10};
+use crate::variant::Variant;
 use block::Block;
 use cipher::Cipher;
+use std::marker::PhantomData;
 
-impl Cipher for Aes10 {
-    ghost meaning = { λ s. aes10 (key_of s.schedule.keys) };
+// The round keys of a key, however they are kept, and the rounds under them.
+pub trait KeySchedule {
+    ghost key: { Self → ℕ };
 
-    ghost lawful = { λ s. aes10_lawful (key_of s.schedule.keys) };
+    fn new(bytes: &[u8; 16]) -> Self
+        ensures { key result ≡ of_bytes bytes.now };
 
-    fn encrypt(&mut self, b: Block) -> Block {
-        self.schedule.encrypt(true, 9, b)
-    }
+    fn encrypt<V: Variant>(&self, b: Block) -> Block
+        ensures { value result ≡ (V.meaning (key self.now)).enc (value b) };
 
-    fn decrypt(&mut self, b: Block) -> Block {
-        self.schedule.decrypt(true, 9, b)
-    }
+    fn decrypt<V: Variant>(&self, b: Block) -> Block
+        ensures { value result ≡ (V.meaning (key self.now)).dec (value b) };
+}
 
-    fn label(&mut self) -> u8 {
-        10
-    }
+#[derive(Drop)]
+pub struct Aes<S, V> {
+    schedule: S,
+    variant: PhantomData<V>,
+}
 
-    fn is_double(&mut self) -> bool {
-        false
+impl<S: KeySchedule, V: Variant> Aes<S, V> {
+    pub fn new(key: &[u8; 16]) -> Aes<S, V>
+        ensures { ⟦<Aes<S, V> as Cipher>⟧.meaning result ≡ V.meaning (of_bytes key.now) }
+    {
+        Aes {
+            schedule: S::new(key),
+            variant: PhantomData,
+        }
     }
 }
 
-impl Cipher for Aes6 {
-    ghost meaning = { λ s. aes6 (key_of s.schedule.keys) };
+impl<S: KeySchedule, V: Variant> Cipher for Aes<S, V> {
+    ghost meaning = { λ s. V.meaning (S.key s.schedule) };
 
-    ghost lawful = { λ s. aes6_lawful (key_of s.schedule.keys) };
+    ghost lawful = { λ s. V.lawful (S.key s.schedule) };
 
     fn encrypt(&mut self, b: Block) -> Block {
-        self.schedule.encrypt(false, 6, b)
+        self.schedule.encrypt::<V>(b)
     }
 
     fn decrypt(&mut self, b: Block) -> Block {
-        self.schedule.decrypt(false, 6, b)
+        self.schedule.decrypt::<V>(b)
     }
 
     fn label(&mut self) -> u8 {
-        6
+        V::LABEL
     }
 
     fn is_double(&mut self) -> bool {
-        true
+        V::DOUBLE
     }
 }

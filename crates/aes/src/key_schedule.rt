@@ -1,20 +1,18 @@
 // The round keys, worked out once per key, and the rounds under them.
-ghost use Rattle.std.specs.Prelude.{◌≡◌, ◌<◌};
+ghost use Rattle.std.specs.Prelude.{◌≡◌, fold, reverse};
 ghost use Rattle.block.specs.Bytes.{bytes_of, of_bytes};
 ghost use Rattle.block.specs.Value.{value};
-ghost use Rattle.aes.specs.Fips197.{dec, enc, inv_rounds, key_of, key_schedule, next_key, rounds, turned, xor_word};
+ghost use Rattle.aes.specs.Fips197.{dec, enc, inv_round, key_of, key_schedule, round, turned, xor_word};
 
 use super::steps::{
     State, Word, add_round_key, full_round, inv_full_round, inv_last_round, join, last_round,
     word_at,
 };
+use super::{Expansion, KeySchedule, Variant, expand};
 use block::Block;
 
-const RCON: [u8; 10] = [0x01, 0x02, 0x04, 0x08, 0x10, 0x20, 0x40, 0x80, 0x1b, 0x36];
-
-// The first round key is the key itself.
 #[derive(Drop)]
-pub(super) struct Schedule {
+pub struct Schedule {
     keys: [State; 11],
     ghost ok: { keys ≡ key_schedule (bytes_of (key_of keys)) },
 }
@@ -37,82 +35,74 @@ fn turn(rc: u8, k: State) -> Word
     ]
 }
 
-fn next_key(rc: u8, k: State) -> State
-    ensures { result ≡ next_key rc k }
-{
-    let a = xor_word(word_at(k, 0), turn(rc, k));
-    let b = xor_word(word_at(k, 4), a);
-    let c = xor_word(word_at(k, 8), b);
-    let d = xor_word(word_at(k, 12), c);
-    join(a, b, c, d)
-}
+impl Expansion for Schedule {
+    type Key = State;
 
-fn expand(key: State) -> [State; 11]
-    ensures { result ≡ key_schedule key }
-{
-    let mut keys = [key; 11];
-    for i in 0..10 {
-        let k = keys[i];
-        keys[i + 1] = next_key(RCON[i], k);
+    ghost bytes = { λ k. k };
+
+    fn next_key(rc: u8, k: State) -> State {
+        let a = xor_word(word_at(k, 0), turn(rc, k));
+        let b = xor_word(word_at(k, 4), a);
+        let c = xor_word(word_at(k, 8), b);
+        let d = xor_word(word_at(k, 12), c);
+        join(a, b, c, d)
     }
-    keys
 }
 
-fn run_rounds(keys: &[State; 11], n: usize, start: State) -> State
-    requires { n < 11 }
-    ensures { result ≡ rounds keys.now n start }
+// A full round under each of the keys.
+// Tried and not proved: a `fold`, as Speck has it. The check does not find what the closure answers where keys and state are arrays.
+// The result goes through `t`, since the check covers no call that lays its result in an array that is already there.
+fn run_rounds(keys: &[State], start: State) -> State
+    ensures { result ≡ fold (λ s k. round k s) start keys.now }
 {
-    let mut s = add_round_key(&keys[0], start);
-    for i in 0..n {
-        let t = full_round(&keys[i + 1], s);
+    let mut s = start;
+    for k in keys {
+        let t = full_round(k, s);
         s = t;
     }
     s
 }
 
-fn run_inv_rounds(keys: &[State; 11], n: usize, end: State) -> State
-    requires { n < 11 }
-    ensures { result ≡ inv_rounds keys.now n end }
+fn run_inv_rounds(keys: &[State], end: State) -> State
+    ensures { result ≡ fold (λ s k. inv_round k s) end (reverse keys.now) }
 {
     let mut s = end;
-    for i in (0..n).rev() {
-        let t = inv_full_round(&keys[i + 1], s);
+    for k in keys.iter().rev() {
+        let t = inv_full_round(k, s);
         s = t;
     }
-    add_round_key(&keys[0], s)
+    s
 }
 
-impl Schedule {
-    pub(super) fn new(key: &State) -> Schedule
-        ensures { key_of result.keys ≡ of_bytes key.now }
-    {
-        Schedule { keys: expand(*key) }
+impl KeySchedule for Schedule {
+    ghost key = { λ s. key_of s.keys };
+
+    fn new(bytes: &[u8; 16]) -> Schedule {
+        Schedule {
+            keys: expand::<Schedule>(*bytes),
+        }
     }
 
-    // `n` full rounds and, where `last` is set, one without MixColumns.
-    pub(super) fn encrypt(&self, last: bool, n: usize, b: Block) -> Block
-        requires { n < 10 }
-        ensures { value result ≡ enc last n (key_of self.now.keys) (value b) }
-    {
-        let s = run_rounds(&self.keys, n, b.to_bytes());
-        let out = if last {
-            last_round(&self.keys[n + 1], s)
+    // Only the order of the calls is that of the schedule by tables: its states differ, and its decryption takes other keys.
+    fn encrypt<V: Variant>(&self, b: Block) -> Block {
+        let start = add_round_key(&self.keys[0], b.to_bytes());
+        let s = run_rounds(&self.keys[1..=V::ROUNDS], start);
+        let out = if V::LAST {
+            last_round(&self.keys[V::ROUNDS + 1], s)
         } else {
             s
         };
         Block::from_bytes(&out)
     }
 
-    pub(super) fn decrypt(&self, last: bool, n: usize, b: Block) -> Block
-        requires { n < 10 }
-        ensures { value result ≡ dec last n (key_of self.now.keys) (value b) }
-    {
+    fn decrypt<V: Variant>(&self, b: Block) -> Block {
         let s = b.to_bytes();
-        let t = if last {
-            inv_last_round(&self.keys[n + 1], s)
+        let t = if V::LAST {
+            inv_last_round(&self.keys[V::ROUNDS + 1], s)
         } else {
             s
         };
-        Block::from_bytes(&run_inv_rounds(&self.keys, n, t))
+        let end = run_inv_rounds(&self.keys[1..=V::ROUNDS], t);
+        Block::from_bytes(&add_round_key(&self.keys[0], end))
     }
 }

@@ -3,49 +3,32 @@
 
 ghost use Rattle.std.specs.Prelude.{◌≡◌};
 ghost use Rattle.block.specs.Bytes.{of_bytes};
-ghost use Rattle.aes.specs.contracts.ciphers.Aes10Cipher.TheImpl.{ghosts as cipher10};
-ghost use Rattle.aes.specs.contracts.ciphers.Aes6Cipher.TheImpl.{ghosts as cipher6};
 ghost use Rattle.aes.specs.Fips197.{aes10, aes6};
 ghost use Rattle.aes.specs.Vectors.{Meets, vectors10, vectors6};
 
-use key_schedule::Schedule;
-
-mod ciphers;
-mod key_schedule;
-mod steps;
-
 use cipher::Cipher;
 
-// AES-128: nine full rounds, and a last one without MixColumns.
-#[derive(Drop)]
-pub struct Aes10 {
-    schedule: Schedule,
-}
+mod ciphers;
+mod expansion;
+mod key_schedule;
+mod steps;
+mod variant;
 
-// Six full rounds, under the first seven round keys.
-#[derive(Drop)]
-pub struct Aes6 {
-    schedule: Schedule,
-}
+pub use ciphers::{Aes, KeySchedule};
+pub use expansion::{Expansion, expand};
+pub use key_schedule::Schedule;
+pub use variant::{Six, Ten, Variant};
 
-impl Aes10 {
-    pub fn new(key: &[u8; 16]) -> Aes10
-        ensures { cipher10.meaning result ≡ aes10 (of_bytes key.now) }
-    {
-        Aes10 {
-            schedule: Schedule::new(key),
-        }
-    }
-}
+pub type Aes10 = Aes<Schedule, Ten>;
 
-impl Aes6 {
-    pub fn new(key: &[u8; 16]) -> Aes6
-        ensures { cipher6.meaning result ≡ aes6 (of_bytes key.now) }
-    {
-        Aes6 {
-            schedule: Schedule::new(key),
-        }
-    }
+pub type Aes6 = Aes<Schedule, Six>;
+
+// Both ciphers under one key, by their definitions.
+pub fn both(key: &[u8; 16]) -> (Aes10, Aes6)
+    ensures ten { ⟦<Aes10 as Cipher>⟧.meaning result.0 ≡ aes10 (of_bytes key.now) }
+    ensures six { ⟦<Aes6 as Cipher>⟧.meaning result.1 ≡ aes6 (of_bytes key.now) }
+{
+    (Aes10::new(key), Aes6::new(key))
 }
 
 // The definitions give what FIPS 197 prints.
@@ -61,7 +44,7 @@ mod tests {
     use cipher::Cipher;
 
     fn does<C: Cipher>(c: &mut C, plain: Block, enciphered: Block) -> bool {
-        c.encrypt(plain).same(enciphered) && c.decrypt(enciphered).same(plain)
+        c.encrypt(plain) == enciphered && c.decrypt(enciphered) == plain
     }
 
     // FIPS 197, appendices B and C.1: the ciphertext, and the state at the start of round 7.

@@ -1,6 +1,8 @@
 // The steps and rounds on a state of sixteen bytes, column by column.
 ghost use Rattle.std.specs.Prelude.{◌≡◌, ◌<◌, ◌++◌};
-ghost use Rattle.aes.specs.Fips197.{add_round_key, inv_last_round, inv_round, inv_shift_rows, inv_sub_bytes, last_round, mix_by, round, shift_rows, sub_bytes, word};
+ghost use Rattle.aes.specs.Fips197.{add_round_key, inv_last_round, inv_round, inv_shift_rows, inv_sub_bytes, last_round, mix_by, round, shift_by, shift_rows, sub_bytes, word};
+
+use std::array;
 
 pub(super) type State = [u8; 16];
 
@@ -15,6 +17,7 @@ const INV_MIX: [[u8; 4]; 4] = [
     [0x0b, 0x0d, 0x09, 0x0e],
 ];
 
+// Spelled out, as `join` is: a slice would have to be turned back into an array.
 pub(super) fn word_at(s: State, i: usize) -> Word
     requires { i < 13 }
     ensures { result ≡ word i s }
@@ -31,45 +34,38 @@ pub(super) fn join(a: Word, b: Word, c: Word, d: Word) -> State
     ]
 }
 
+// Each step has its inverse beside it. What the two share is in `shift_by` and `mix_by`; the rest is one line, with the steps in
+// another order.
 fn sub_bytes(s: State) -> State
     ensures { result ≡ sub_bytes s }
 {
-    let mut t = s;
-    for i in 0..16 {
-        t[i] = gf256::sub(s[i]);
-    }
-    t
+    s.map(gf256::sub)
 }
 
 fn inv_sub_bytes(s: State) -> State
     ensures { result ≡ inv_sub_bytes s }
 {
-    let mut t = s;
-    for i in 0..16 {
-        t[i] = gf256::inv_sub(s[i]);
-    }
-    t
+    s.map(gf256::inv_sub)
 }
 
-// Row r, the places i with i % 4 == r, moves by r columns.
+// Row r, the places i with i % 4 == r, moves by r columns of `n` places.
+fn shift_by(n: usize, s: State) -> State
+    requires { n < 16 }
+    ensures { result ≡ shift_by n s }
+{
+    array::from_fn(|i| s[(i + n * (i % 4)) % 16])
+}
+
 fn shift_rows(s: State) -> State
     ensures { result ≡ shift_rows s }
 {
-    let mut t = s;
-    for i in 0..16 {
-        t[i] = s[(i + 4 * (i % 4)) % 16];
-    }
-    t
+    shift_by(4, s)
 }
 
 fn inv_shift_rows(s: State) -> State
     ensures { result ≡ inv_shift_rows s }
 {
-    let mut t = s;
-    for i in 0..16 {
-        t[i] = s[(i + 12 * (i % 4)) % 16];
-    }
-    t
+    shift_by(12, s)
 }
 
 // Each column times the matrix `m`.
@@ -87,11 +83,7 @@ fn mix_by(m: &[[u8; 4]; 4], s: State) -> State
 pub(super) fn add_round_key(k: &State, s: State) -> State
     ensures { result ≡ add_round_key k.now s }
 {
-    let mut t = s;
-    for i in 0..16 {
-        t[i] = s[i] ^ k[i];
-    }
-    t
+    array::from_fn(|i| s[i] ^ k[i])
 }
 
 pub(super) fn full_round(k: &State, s: State) -> State

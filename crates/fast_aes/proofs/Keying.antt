@@ -1,17 +1,17 @@
 -- The round keys as words, against those as bytes.
-use Rattle.std.proofs.Common.{◌≡◌, ℕ, zero, suc, ◌+◌, ◌-◌, ◌<◌, ◌≤◌, true, false, ◌≢◌, List, [], ◌∷◌, length, get_or, set, sym, refl, ap, ◌∙◌, ap₂, ⊎_elim, zero-add, arith, length-set, get_or-set_other, get_or-set_same}
+use Rattle.std.proofs.Common.{◌≡◌, ℕ, zero, suc, ◌+◌, ◌-◌, ◌<◌, ◌≤◌, true, false, List, [], ◌∷◌, length, get_or, map, take, drop, reverse, sym, refl, ap, ◌∙◌, ap₂, zero-add, arith, length-drop}
+use Rattle.std.specs.List.{fold}
 use lib.Bits.{bit_xor}
+use Rattle.std.proofs.lemmas.List.{get_or-map, length-map}
 use Rattle.std.proofs.lemmas.List.FromFn.{fill_by_all, get_or-map-range_with_len}
-use Rattle.std.proofs.lemmas.List.Edits.{fill_by_more}
-use Rattle.std.proofs.lemmas.Bool.{cases_eq}
 use Rattle.block.specs.Bytes.{of_bytes, bytes_of, Bytes}
 use Rattle.block.proofs.Bytes.{number_back}
 use Rattle.gf256.specs.Sbox.{sbox}
-use Rattle.aes.specs.Fips197.{add_round_key, decipher, next_key, round_key, key_schedule, xor_word, inv_mix_columns, inv_shift_rows, inv_sub_bytes, inv_rounds, inv_round}
-use Rattle.aes.proofs.Turns.{Keys, keys_none, keys_more}
-use Rattle.fast_aes.specs.Words.{byte, bytes4, spread, spreads, unmixes}
+use Rattle.aes.specs.Fips197.{add_round_key, decipher, next_key, key_schedule, xor_word, inv_mix_columns, inv_shift_rows, inv_sub_bytes, inv_rounds, inv_round, round, rounds}
+use Rattle.aes.proofs.Turns.{inv_rounds_are, later, later_long, rounds_are}
+use Rattle.fast_aes.specs.Words.{byte, bytes4, inv_turn, spread, spreads, unmixes}
 use Rattle.fast_aes.proofs.Gathering.{bytes4_xor}
-use Rattle.fast_aes.proofs.Turning.{four, spreads_at}
+use Rattle.fast_aes.proofs.Turning.{four, inv_turn_under, spreads_at}
 
 -- the next round key: the turned word t goes into the first, and each into the one behind it
 module _ (rc : ℕ) (k : List ℕ) (t : ℕ) where
@@ -29,65 +29,61 @@ module _ (rc : ℕ) (k : List ℕ) (t : ℕ) where
       let qd = x (get_or k 3 0) c d _ pd qc in
       four qa qb qc qd
 
-spreads_length : (ks : List (List ℕ)) → length (spreads ks) ≡ 11
+-- eleven round keys, each spread
+pub spreads_are : (ks : List (List ℕ)) → length ks ≡ 11 → map spread ks ≡ spreads ks
 unfolding spreads
-spreads_length ks = refl
-
-is_spreads : (ks t : List (List ℕ)) → length t ≡ 11 → ((k : ℕ) → k < 11 → get_or t k [] ≡ spread (get_or ks k [])) → t ≡ spreads ks
-unfolding spreads
-is_spreads ks t l e = fill_by_all (λ i. spread (get_or ks i [])) t 11 [] l e
-
--- a round key written at place j
-spreads_set : (ks : List (List ℕ)) (j : ℕ) (v : List ℕ) → length ks ≡ 11 → j < 11 → spreads (set ks j v) ≡ set (spreads ks) j (spread v)
-spreads_set ks j v l h =
-    let short : j < length ks = omega arith in
-    let wide : j < length (spreads ks) = rw (spreads_length ks) h in
-    sym (is_spreads (set ks j v) (set (spreads ks) j (spread v)) (simp length-set (spreads_length ks))
-    (λ k lt. ⊎_elim (λ e. rw e (simp get_or-set_same)) (λ (ne : k ≢ j). simp get_or-set_other (spreads_at ks k lt)) (cases_eq k j)))
-
--- the round keys up to place i stand in ks
-abbrev pub Keyed : List ℕ → List (List ℕ) → ℕ → Type 0
-Keyed key ks i = (length ks ≡ 11) × Keys key (spreads ks) i
-
-pub keyed_none : (key : List ℕ) (ks : List (List ℕ)) → length ks ≡ 11 → spread (get_or ks 0 []) ≡ key → Keyed key ks 0
-keyed_none key ks l e = (l, keys_none key (spreads ks) (spreads_length ks) (spreads_at ks 0 (omega arith) ∙ e))
-
-pub keyed_more : (key : List ℕ) (ks : List (List ℕ)) (i : ℕ) (v : List ℕ) → i < 10
-    → spread v ≡ next_key (get_or (0x01 ∷ 0x02 ∷ 0x04 ∷ 0x08 ∷ 0x10 ∷ 0x20 ∷ 0x40 ∷ 0x80 ∷ 0x1b ∷ 0x36 ∷ []) i 0) (spread (get_or ks i []))
-    → Keyed key ks i → Keyed key (set ks (i + 1) v) (i + 1)
-keyed_more key ks i v h e p =
-    let next = e ∙ ap (next_key _) (sym (spreads_at ks i (omega arith))) in
-    (simp length-set p.0, rw (spreads_set ks (i + 1) v p.0 (omega arith)) (keys_more key (spreads ks) i (spread v) h next p.1))
-
-pub keyed_all : (key : List ℕ) (ks : List (List ℕ)) (i : ℕ) → 10 ≤ i → Keyed key ks i → spreads ks ≡ key_schedule key
-unfolding key_schedule
-keyed_all key ks i h p = fill_by_all (round_key key) (spreads ks) 11 [] p.1.0 (λ k l. p.1.1 k (omega arith))
+spreads_are ks l =
+    fill_by_all (λ i. spread (get_or ks i [])) (map spread ks) 11 [] (length-map ks spread ∙ l) (λ k h. get_or-map spread ks k [] [] (omega arith))
 
 -- the schedule of a key that came as bytes
 pub schedule_made : (key : List ℕ) (ks : List (List ℕ)) (s : List ℕ) (v : ℕ) → length key ≡ 16 → Bytes key → spreads ks ≡ key_schedule (spread s)
     → spread s ≡ bytes_of v → v ≡ of_bytes key → spreads ks ≡ key_schedule key
 schedule_made key ks s v l h e p q = e ∙ ap key_schedule (p ∙ ap bytes_of q ∙ number_back key l h)
 
--- InvMixColumns of the round keys below place i stands in ds
-module _ (ks : List (List ℕ)) where
+-- InvMixColumns of each round key
+module _ (ks ds : List (List ℕ)) where
   abbrev mixed_back : ℕ → List ℕ
   mixed_back i = inv_mix_columns (spread (get_or ks i []))
 
-  abbrev pub Unmixing : List (List ℕ) → ℕ → Type 0
-  Unmixing ds i = (length ds ≡ 11) × ((k : ℕ) → k < i → get_or (spreads ds) k [] ≡ mixed_back k)
+  pub unmixes_are : ((i : ℕ) → i < 11 → spread (get_or ds i []) ≡ mixed_back i) → spreads ds ≡ unmixes ks
+  unfolding spreads unmixes
+  unmixes_are e = fill_by_all mixed_back (spreads ds) 11 [] refl (λ k h. spreads_at ds k h ∙ e k h)
 
-  pub unmixing_more : (ds : List (List ℕ)) (i : ℕ) (v : List ℕ) → i < 11 → spread v ≡ mixed_back i → Unmixing ds i → Unmixing (set ds i v) (i + 1)
-  unmixing_more ds i v h e p =
-      let wide : i < length (spreads ds) = rw (spreads_length ds) h in
-      (simp length-set p.0, rw (spreads_set ds i v p.0 h, e) (fill_by_more mixed_back (spreads ds) i [] wide p.1))
-
-  pub unmixing_all : (ds : List (List ℕ)) (i : ℕ) → 11 ≤ i → Unmixing ds i → spreads ds ≡ unmixes ks
+  unmixed_at : spreads ds ≡ unmixes ks → (i : ℕ) → i < 11 → spread (get_or ds i []) ≡ mixed_back i
   unfolding unmixes
-  unmixing_all ds i h p = fill_by_all mixed_back (spreads ds) 11 [] (spreads_length ds) (λ k l. p.1 k (omega arith))
+  unmixed_at e i h = sym (spreads_at ds i h) ∙ ap (λ (l : List (List ℕ)). get_or l i []) e ∙ get_or-map-range_with_len mixed_back 0 11 i i [] h (zero-add i)
 
-  pub unmixed_at : (ds : List (List ℕ)) → spreads ds ≡ unmixes ks → (i : ℕ) → i < 11 → spread (get_or ds i []) ≡ mixed_back i
-  unfolding unmixes
-  unmixed_at ds e i h = sym (spreads_at ds i h) ∙ ap (λ (l : List (List ℕ)). get_or l i []) e ∙ get_or-map-range_with_len mixed_back 0 11 i i [] h (zero-add i)
+-- the rounds as a loop takes them
+module _ (ks : List (List ℕ)) (long : length ks ≡ 11) (n : ℕ) (s : List ℕ) (h : n < 11) where
+  short : n ≤ length (drop 1 ks)
+  short = later_long ks n (omega arith)
+
+  same_number : n + 1 - 1 ≡ n
+  same_number = omega arith
+
+  key_at : (i : ℕ) → i < length (drop 1 ks) → get_or (spreads ks) (suc i) [] ≡ spread (get_or (drop 1 ks) i [])
+  key_at i l = spreads_at ks (suc i) (omega (arith, length-drop 1 ks)) ∙ ap spread (sym (later ks i []))
+
+  pub rounds_by_words : fold (λ s k. round (spread k) s) (add_round_key (spread (get_or ks 0 [])) s) (take (n + 1 - 1) (drop 1 ks)) ≡ rounds (spreads ks) n s
+  rounds_by_words =
+      rw (same_number, ← spreads_at ks 0 (omega arith)) (rounds_are (spreads ks) (drop 1 ks) [] (λ k s. round (spread k) s)
+      (λ i s l. ap (λ k. round k s) (sym (key_at i l))) n s short)
+
+  module _ (ds : List (List ℕ)) (wide : length ds ≡ 11) (is : spreads ds ≡ unmixes ks) where
+    turned_at : (i : ℕ) (s : List ℕ) → i < length (drop 1 ds)
+        → inv_sub_bytes (inv_shift_rows (inv_turn (spread (get_or (drop 1 ds) i [])) s)) ≡ inv_round (get_or (spreads ks) (suc i) []) (inv_sub_bytes (inv_shift_rows s))
+    turned_at i s l =
+        let h : suc i < 11 = omega (arith, length-drop 1 ds) in
+        let e = later ds i [] in
+        let d = unmixed_at ks ds is (suc i) h in
+        rw (later ds i [], unmixed_at ks ds is (suc i) h, spreads_at ks (suc i) h) (inv_turn_under (spread (get_or ks (suc i) [])) s)
+
+    pub inv_rounds_by_words :
+        add_round_key (spread (get_or ks 0 [])) (inv_sub_bytes (inv_shift_rows (fold (λ s k. inv_turn (spread k) s) s (reverse (take (n + 1 - 1) (drop 1 ds))))))
+        ≡ inv_rounds (spreads ks) n (inv_sub_bytes (inv_shift_rows s))
+    inv_rounds_by_words =
+        rw (same_number, ← spreads_at ks 0 (omega arith)) (inv_rounds_are (spreads ks) (drop 1 ds) [] (λ k s. inv_turn (spread k) s) (λ s. inv_sub_bytes (inv_shift_rows s)) turned_at n s
+        (later_long ds n (omega arith)))
 
 -- the first of n inverse rounds
 inv_first : (ks : List (List ℕ)) (n : ℕ) (s : List ℕ) → 0 < n → inv_rounds ks (n - 1) (inv_round (get_or ks n []) s) ≡ inv_rounds ks n s

@@ -1,13 +1,13 @@
 -- Rounds on four words against the rounds on their sixteen bytes.
-use Rattle.std.proofs.Common.{◌≡◌, ℕ, ◌<◌, List, [], ◌∷◌, ◌++◌, get_or, sym, refl, ap, ◌∙◌, ap₂, zero-add}
+use Rattle.std.proofs.Common.{◌≡◌, ℕ, ◌<◌, List, [], ◌∷◌, ◌++◌, get_or, sym, refl, ap, ◌∙◌, ap₂, zero-add, lit<}
 use lib.Bits.{bit_xor}
 use Rattle.std.proofs.lemmas.List.FromFn.{get_or-map-range_with_len}
 use Rattle.gf256.specs.Columns.{mix_matrix, inv_mix_matrix, dotted, product}
 use Rattle.gf256.specs.Field.{gmul}
 use Rattle.gf256.specs.Sbox.{sbox, inv_sbox}
 use Rattle.gf256.proofs.Linear.{cross, gmul_xor}
-use Rattle.aes.specs.Fips197.{add_round_key, sub_bytes, inv_sub_bytes, shift_rows, inv_shift_rows, mix_by, inv_mix_columns, round, last_round, word, xor_word}
-use Rattle.fast_aes.specs.Words.{byte, bytes4, spread, spreads}
+use Rattle.aes.specs.Fips197.{add_round_key, sub_bytes, inv_sub_bytes, shift_by, shift_rows, inv_shift_rows, mix_by, inv_mix_columns, inv_round, round, last_round, word, xor_word}
+use Rattle.fast_aes.specs.Words.{boxed, bytes4, inv_turn, spread, spreads}
 use Rattle.fast_aes.proofs.Gathering.{bytes4_xor}
 
 pub spreads_at : (ks : List (List ℕ)) (i : ℕ) → i < 11 → get_or (spreads ks) i [] ≡ spread (get_or ks i [])
@@ -26,16 +26,9 @@ module _ (k s : List ℕ) where
   add_key_is =
       four (bytes4_xor (get_or s 0 0) (get_or k 0 0)) (bytes4_xor (get_or s 1 0) (get_or k 1 0)) (bytes4_xor (get_or s 2 0) (get_or k 2 0)) (bytes4_xor (get_or s 3 0) (get_or k 3 0))
 
-module _ (s : List ℕ) (e f g h : ℕ) where
-  pub unmix_is : bytes4 e ≡ product inv_mix_matrix (bytes4 (get_or s 0 0)) → bytes4 f ≡ product inv_mix_matrix (bytes4 (get_or s 1 0))
-      → bytes4 g ≡ product inv_mix_matrix (bytes4 (get_or s 2 0)) → bytes4 h ≡ product inv_mix_matrix (bytes4 (get_or s 3 0))
-      → spread (e ∷ f ∷ g ∷ h ∷ []) ≡ inv_mix_columns (spread s)
-  unfolding spread mix_by
-  unmix_is p q r t = four p q r t
-
--- the bytes that ShiftRows and its inverse bring into one column, substituted
-abbrev pub boxed : (ℕ → ℕ) → ℕ → ℕ → ℕ → ℕ → List ℕ
-boxed f a b c d = f (byte 0 a) ∷ f (byte 1 b) ∷ f (byte 2 c) ∷ f (byte 3 d) ∷ []
+pub unmix_is : (s r : List ℕ) → ((i : ℕ) → i < 4 → bytes4 (get_or r i 0) ≡ product inv_mix_matrix (bytes4 (get_or s i 0))) → spread r ≡ inv_mix_columns (spread s)
+unfolding spread mix_by
+unmix_is s r e = four (e 0 (lit< tt)) (e 1 (lit< tt)) (e 2 (lit< tt)) (e 3 (lit< tt))
 
 module _ (k : List ℕ) (a b c d e f g h : ℕ) where
   pub round_is : bytes4 e ≡ xor_word (product mix_matrix (boxed sbox a b c d)) (bytes4 (get_or k 0 0))
@@ -43,12 +36,12 @@ module _ (k : List ℕ) (a b c d e f g h : ℕ) where
       → bytes4 g ≡ xor_word (product mix_matrix (boxed sbox c d a b)) (bytes4 (get_or k 2 0))
       → bytes4 h ≡ xor_word (product mix_matrix (boxed sbox d a b c)) (bytes4 (get_or k 3 0))
       → spread (e ∷ f ∷ g ∷ h ∷ []) ≡ round (spread k) (spread (a ∷ b ∷ c ∷ d ∷ []))
-  unfolding spread add_round_key mix_by shift_rows sub_bytes
+  unfolding spread add_round_key mix_by shift_by sub_bytes
   round_is p q r t = four p q r t
 
   shifted : bytes4 e ≡ boxed sbox a b c d → bytes4 f ≡ boxed sbox b c d a → bytes4 g ≡ boxed sbox c d a b → bytes4 h ≡ boxed sbox d a b c
       → spread (e ∷ f ∷ g ∷ h ∷ []) ≡ shift_rows (sub_bytes (spread (a ∷ b ∷ c ∷ d ∷ [])))
-  unfolding spread shift_rows sub_bytes
+  unfolding spread shift_by sub_bytes
   shifted p q r t = four p q r t
 
   pub last_is : bytes4 e ≡ boxed sbox a b c d → bytes4 f ≡ boxed sbox b c d a → bytes4 g ≡ boxed sbox c d a b → bytes4 h ≡ boxed sbox d a b c
@@ -58,7 +51,7 @@ module _ (k : List ℕ) (a b c d e f g h : ℕ) where
 
   inv_shifted : bytes4 e ≡ boxed inv_sbox a d c b → bytes4 f ≡ boxed inv_sbox b a d c → bytes4 g ≡ boxed inv_sbox c b a d → bytes4 h ≡ boxed inv_sbox d c b a
       → spread (e ∷ f ∷ g ∷ h ∷ []) ≡ inv_sub_bytes (inv_shift_rows (spread (a ∷ b ∷ c ∷ d ∷ [])))
-  unfolding spread inv_shift_rows inv_sub_bytes
+  unfolding spread shift_by inv_sub_bytes
   inv_shifted p q r t = four p q r t
 
   pub inv_last_is : bytes4 e ≡ boxed inv_sbox a d c b → bytes4 f ≡ boxed inv_sbox b a d c → bytes4 g ≡ boxed inv_sbox c b a d → bytes4 h ≡ boxed inv_sbox d c b a
@@ -80,26 +73,23 @@ product_xor m u v =
     ap₂ ◌∷◌ (dotted_xor (get_or m 0 []) u v) (ap₂ ◌∷◌ (dotted_xor (get_or m 1 []) u v)
     (ap₂ ◌∷◌ (dotted_xor (get_or m 2 []) u v) (ap₂ ◌∷◌ (dotted_xor (get_or m 3 []) u v) refl)))
 
--- a column under the key dk that InvMixColumns made of k
-under : (k dk e : ℕ) (u : List ℕ) → bytes4 dk ≡ product inv_mix_matrix (bytes4 k) → bytes4 e ≡ xor_word (product inv_mix_matrix u) (bytes4 dk)
-    → bytes4 e ≡ product inv_mix_matrix (xor_word u (bytes4 k))
-under k dk e u p q = q ∙ ap (xor_word (product inv_mix_matrix u)) p ∙ product_xor inv_mix_matrix u (bytes4 k)
+pub mix_add : (m : List (List ℕ)) (k s : List ℕ) → add_round_key (mix_by m k) (mix_by m s) ≡ mix_by m (add_round_key k s)
+unfolding add_round_key mix_by
+mix_add m k s =
+    four (product_xor m (word 0 s) (word 0 k)) (product_xor m (word 4 s) (word 4 k)) (product_xor m (word 8 s) (word 8 k)) (product_xor m (word 12 s) (word 12 k))
 
--- an inverse round, with InvMixColumns taken past the key
-module _ (k dk : List ℕ) (is : spread dk ≡ inv_mix_columns (spread k)) (a b c d e f g h : ℕ) where
-  key_words_lem : ((bytes4 (get_or dk 0 0) ≡ product inv_mix_matrix (bytes4 (get_or k 0 0))) × (bytes4 (get_or dk 1 0) ≡ product inv_mix_matrix (bytes4 (get_or k 1 0))))
-      × ((bytes4 (get_or dk 2 0) ≡ product inv_mix_matrix (bytes4 (get_or k 2 0))) × (bytes4 (get_or dk 3 0) ≡ product inv_mix_matrix (bytes4 (get_or k 3 0))))
-  unfolding spread mix_by
-  key_words_lem = ((ap (word 0) is, ap (word 4) is), (ap (word 8) is, ap (word 12) is))
+-- an inverse round on four words
+module _ (k : List ℕ) (a b c d e f g h : ℕ) where
+  pub inv_turn_is : bytes4 e ≡ xor_word (product inv_mix_matrix (boxed inv_sbox a d c b)) (bytes4 (get_or k 0 0))
+      → bytes4 f ≡ xor_word (product inv_mix_matrix (boxed inv_sbox b a d c)) (bytes4 (get_or k 1 0))
+      → bytes4 g ≡ xor_word (product inv_mix_matrix (boxed inv_sbox c b a d)) (bytes4 (get_or k 2 0))
+      → bytes4 h ≡ xor_word (product inv_mix_matrix (boxed inv_sbox d c b a)) (bytes4 (get_or k 3 0))
+      → spread (e ∷ f ∷ g ∷ h ∷ []) ≡ inv_turn (spread k) (spread (a ∷ b ∷ c ∷ d ∷ []))
+  unfolding spread add_round_key mix_by shift_by inv_sub_bytes
+  inv_turn_is p q r t = four p q r t
 
-  pub inv_round_is : bytes4 e ≡ xor_word (product inv_mix_matrix (boxed inv_sbox a d c b)) (bytes4 (get_or dk 0 0))
-      → bytes4 f ≡ xor_word (product inv_mix_matrix (boxed inv_sbox b a d c)) (bytes4 (get_or dk 1 0))
-      → bytes4 g ≡ xor_word (product inv_mix_matrix (boxed inv_sbox c b a d)) (bytes4 (get_or dk 2 0))
-      → bytes4 h ≡ xor_word (product inv_mix_matrix (boxed inv_sbox d c b a)) (bytes4 (get_or dk 3 0))
-      → spread (e ∷ f ∷ g ∷ h ∷ []) ≡ inv_mix_columns (add_round_key (spread k) (inv_sub_bytes (inv_shift_rows (spread (a ∷ b ∷ c ∷ d ∷ [])))))
-  unfolding spread add_round_key mix_by inv_shift_rows inv_sub_bytes
-  inv_round_is p q r t =
-      four (under (get_or k 0 0) (get_or dk 0 0) e (boxed inv_sbox a d c b) key_words_lem.0.0 p)
-      (under (get_or k 1 0) (get_or dk 1 0) f (boxed inv_sbox b a d c) key_words_lem.0.1 q)
-      (under (get_or k 2 0) (get_or dk 2 0) g (boxed inv_sbox c b a d) key_words_lem.1.0 r)
-      (under (get_or k 3 0) (get_or dk 3 0) h (boxed inv_sbox d c b a) key_words_lem.1.1 t)
+-- under InvMixColumns of a round key, it is the inverse round under that key
+pub inv_turn_under : (k s : List ℕ) → inv_sub_bytes (inv_shift_rows (inv_turn (inv_mix_columns k) s)) ≡ inv_round k (inv_sub_bytes (inv_shift_rows s))
+inv_turn_under k s =
+    let t = inv_sub_bytes (inv_shift_rows s) in
+    ap (λ z. inv_sub_bytes (inv_shift_rows z)) (mix_add inv_mix_matrix k t)

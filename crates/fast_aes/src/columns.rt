@@ -1,34 +1,18 @@
 // One column of a round, as a word.
-ghost use Rattle.std.specs.Prelude.{◌≡◌, [], ◌∷◌, bit_xor};
+ghost use Rattle.std.specs.Prelude.{◌≡◌, ◌<◌, [], ◌∷◌, bit_xor};
 ghost use Rattle.aes.specs.Fips197.{xor_word};
-ghost use Rattle.gf256.specs.Columns.{inv_mix_matrix, mix_matrix, product};
-ghost use Rattle.gf256.specs.Sbox.{inv_sbox, sbox};
-ghost use Rattle.fast_aes.specs.Words.{byte, bytes4};
+ghost use Rattle.gf256.specs.Columns.{inv_mix_matrix, product};
+ghost use Rattle.gf256.specs.Sbox.{sbox};
+ghost use Rattle.fast_aes.specs.Words.{boxed, byte, bytes4};
 
-use super::{td0, td1, td2, td3, te0, te1, te2, te3};
+use super::direction::Direction;
+use super::td::Back;
 
-fn first(w: u32) -> u8
-    ensures { result ≡ byte 0 w }
+fn byte_at(i: usize, w: u32) -> u8
+    requires { i < 4 }
+    ensures { result ≡ byte i w }
 {
-    (w >> 24) as u8
-}
-
-fn second(w: u32) -> u8
-    ensures { result ≡ byte 1 w }
-{
-    ((w >> 16) & 0xff) as u8
-}
-
-fn third(w: u32) -> u8
-    ensures { result ≡ byte 2 w }
-{
-    ((w >> 8) & 0xff) as u8
-}
-
-fn fourth(w: u32) -> u8
-    ensures { result ≡ byte 3 w }
-{
-    (w & 0xff) as u8
+    w.to_be_bytes()[i]
 }
 
 fn joined(p: u8, q: u8, r: u8, s: u8) -> u32
@@ -37,51 +21,34 @@ fn joined(p: u8, q: u8, r: u8, s: u8) -> u32
     u32::from_be_bytes([p, q, r, s])
 }
 
-fn column(p: u8, q: u8, r: u8, s: u8, k: u32) -> u32
-    ensures { bytes4 result ≡ xor_word (product mix_matrix (sbox p ∷ sbox q ∷ sbox r ∷ sbox s ∷ [])) (bytes4 k) }
+fn column<D: Direction>(p: u8, q: u8, r: u8, s: u8, k: u32) -> u32
+    ensures { bytes4 result ≡ xor_word (product D.matrix (D.boxed p ∷ D.boxed q ∷ D.boxed r ∷ D.boxed s ∷ [])) (bytes4 k) }
 {
-    (((k ^ te3::at(s)) ^ te2::at(r)) ^ te1::at(q)) ^ te0::at(p)
-}
-
-fn inv_column(p: u8, q: u8, r: u8, s: u8, k: u32) -> u32
-    ensures { bytes4 result ≡ xor_word (product inv_mix_matrix (inv_sbox p ∷ inv_sbox q ∷ inv_sbox r ∷ inv_sbox s ∷ [])) (bytes4 k) }
-{
-    (((k ^ td3::at(s)) ^ td2::at(r)) ^ td1::at(q)) ^ td0::at(p)
+    (((k ^ D::at(3, s)) ^ D::at(2, r)) ^ D::at(1, q)) ^ D::at(0, p)
 }
 
 // SubBytes, MixColumns and the key, of the bytes that ShiftRows brings into one column.
-pub(super) fn mixed(a: u32, b: u32, c: u32, d: u32, k: u32) -> u32
-    ensures { bytes4 result ≡ xor_word (product mix_matrix (sbox (byte 0 a) ∷ sbox (byte 1 b) ∷ sbox (byte 2 c) ∷ sbox (byte 3 d) ∷ [])) (bytes4 k) }
+pub(super) fn mixed<D: Direction>(a: u32, b: u32, c: u32, d: u32, k: u32) -> u32
+    ensures { bytes4 result ≡ xor_word (product D.matrix (boxed D.boxed a b c d)) (bytes4 k) }
 {
-    column(first(a), second(b), third(c), fourth(d), k)
-}
-
-pub(super) fn inv_mixed(a: u32, b: u32, c: u32, d: u32, k: u32) -> u32
-    ensures { bytes4 result ≡ xor_word (product inv_mix_matrix (inv_sbox (byte 0 a) ∷ inv_sbox (byte 1 b) ∷ inv_sbox (byte 2 c) ∷ inv_sbox (byte 3 d) ∷ [])) (bytes4 k) }
-{
-    inv_column(first(a), second(b), third(c), fourth(d), k)
-}
-
-// SubBytes alone, for the last round.
-pub(super) fn substituted(a: u32, b: u32, c: u32, d: u32) -> u32
-    ensures { bytes4 result ≡ sbox (byte 0 a) ∷ sbox (byte 1 b) ∷ sbox (byte 2 c) ∷ sbox (byte 3 d) ∷ [] }
-{
-    joined(
-        gf256::sub(first(a)),
-        gf256::sub(second(b)),
-        gf256::sub(third(c)),
-        gf256::sub(fourth(d)),
+    column::<D>(
+        byte_at(0, a),
+        byte_at(1, b),
+        byte_at(2, c),
+        byte_at(3, d),
+        k,
     )
 }
 
-pub(super) fn inv_substituted(a: u32, b: u32, c: u32, d: u32) -> u32
-    ensures { bytes4 result ≡ inv_sbox (byte 0 a) ∷ inv_sbox (byte 1 b) ∷ inv_sbox (byte 2 c) ∷ inv_sbox (byte 3 d) ∷ [] }
+// SubBytes alone, for the last round.
+pub(super) fn substituted<D: Direction>(a: u32, b: u32, c: u32, d: u32) -> u32
+    ensures { bytes4 result ≡ boxed D.boxed a b c d }
 {
     joined(
-        gf256::inv_sub(first(a)),
-        gf256::inv_sub(second(b)),
-        gf256::inv_sub(third(c)),
-        gf256::inv_sub(fourth(d)),
+        D::sub(byte_at(0, a)),
+        D::sub(byte_at(1, b)),
+        D::sub(byte_at(2, c)),
+        D::sub(byte_at(3, d)),
     )
 }
 
@@ -89,11 +56,11 @@ pub(super) fn inv_substituted(a: u32, b: u32, c: u32, d: u32) -> u32
 pub(super) fn unmixed(w: u32) -> u32
     ensures { bytes4 result ≡ product inv_mix_matrix (bytes4 w) }
 {
-    inv_column(
-        gf256::sub(first(w)),
-        gf256::sub(second(w)),
-        gf256::sub(third(w)),
-        gf256::sub(fourth(w)),
+    column::<Back>(
+        gf256::sub(byte_at(0, w)),
+        gf256::sub(byte_at(1, w)),
+        gf256::sub(byte_at(2, w)),
+        gf256::sub(byte_at(3, w)),
         0,
     )
 }
@@ -103,9 +70,9 @@ pub(super) fn turn(rc: u8, w: u32) -> u32
     ensures { bytes4 result ≡ bit_xor (sbox (byte 1 w)) rc ∷ sbox (byte 2 w) ∷ sbox (byte 3 w) ∷ sbox (byte 0 w) ∷ [] }
 {
     joined(
-        gf256::sub(second(w)) ^ rc,
-        gf256::sub(third(w)),
-        gf256::sub(fourth(w)),
-        gf256::sub(first(w)),
+        gf256::sub(byte_at(1, w)) ^ rc,
+        gf256::sub(byte_at(2, w)),
+        gf256::sub(byte_at(3, w)),
+        gf256::sub(byte_at(0, w)),
     )
 }

@@ -3,58 +3,31 @@
 #![tactic(auto)]
 
 ghost use Rattle.std.specs.Prelude.{◌≡◌};
-ghost use Rattle.aes.specs.Fips197.{aes10, aes6};
 ghost use Rattle.block.specs.Bytes.{of_bytes};
-ghost use Rattle.fast_aes.specs.contracts.ciphers.FastAes10Cipher.TheImpl.{ghosts as cipher10};
-ghost use Rattle.fast_aes.specs.contracts.ciphers.FastAes6Cipher.TheImpl.{ghosts as cipher6};
+ghost use Rattle.aes.specs.Fips197.{aes10, aes6};
 
-use schedule::Schedule;
-
-mod ciphers;
-mod columns;
-mod rounds;
-mod schedule;
-mod td0;
-mod td1;
-mod td2;
-mod td3;
-mod te0;
-mod te1;
-mod te2;
-mod te3;
-
+use aes::{Aes, Six, Ten};
 use cipher::Cipher;
 
-// AES-128: nine full rounds, and a last one without MixColumns.
-#[derive(Drop)]
-pub struct FastAes10 {
-    schedule: Schedule,
-}
+mod columns;
+mod direction;
+mod rounds;
+mod schedule;
+mod td;
+mod te;
 
-// Six full rounds, under the first seven round keys.
-#[derive(Drop)]
-pub struct FastAes6 {
-    schedule: Schedule,
-}
+pub use schedule::Schedule;
 
-impl FastAes10 {
-    pub fn new(key: &[u8; 16]) -> FastAes10
-        ensures { cipher10.meaning result ≡ aes10 (of_bytes key.now) }
-    {
-        FastAes10 {
-            schedule: Schedule::new(key),
-        }
-    }
-}
+pub type FastAes10 = Aes<Schedule, Ten>;
 
-impl FastAes6 {
-    pub fn new(key: &[u8; 16]) -> FastAes6
-        ensures { cipher6.meaning result ≡ aes6 (of_bytes key.now) }
-    {
-        FastAes6 {
-            schedule: Schedule::new(key),
-        }
-    }
+pub type FastAes6 = Aes<Schedule, Six>;
+
+// Both ciphers under one key, which mean what the plain ones mean.
+pub fn both(key: &[u8; 16]) -> (FastAes10, FastAes6)
+    ensures ten { ⟦<FastAes10 as Cipher>⟧.meaning result.0 ≡ aes10 (of_bytes key.now) }
+    ensures six { ⟦<FastAes6 as Cipher>⟧.meaning result.1 ≡ aes6 (of_bytes key.now) }
+{
+    (FastAes10::new(key), FastAes6::new(key))
 }
 
 #[cfg(test)]
@@ -65,7 +38,7 @@ mod tests {
     use cipher::Cipher;
 
     fn does<C: Cipher>(c: &mut C, plain: Block, enciphered: Block) -> bool {
-        c.encrypt(plain).same(enciphered) && c.decrypt(enciphered).same(plain)
+        c.encrypt(plain) == enciphered && c.decrypt(enciphered) == plain
     }
 
     // FIPS 197, appendices B and C.1: the ciphertext, and the state at the start of round 7.
@@ -91,7 +64,7 @@ mod tests {
         let mut same = true;
         for _ in 0..300 {
             let e = fast.encrypt(b);
-            same = same && e.same(plain.encrypt(b)) && fast.decrypt(b).same(plain.decrypt(b));
+            same = same && e == plain.encrypt(b) && fast.decrypt(b) == plain.decrypt(b);
             b = e;
         }
         same

@@ -1,15 +1,18 @@
 // Rounds on a state of four words, a column to a word.
-ghost use Rattle.std.specs.Prelude.{◌≡◌, ◌<◌, [], ◌∷◌};
+ghost use Rattle.std.specs.Prelude.{◌≡◌, fold, reverse};
 ghost use Rattle.block.specs.Bytes.{bytes_of, of_bytes};
 ghost use Rattle.block.specs.Value.{value};
-ghost use Rattle.aes.specs.Fips197.{add_round_key, inv_mix_columns, inv_shift_rows, inv_sub_bytes, last_round, rounds};
-ghost use Rattle.fast_aes.specs.Words.{spread, spreads};
+ghost use Rattle.aes.specs.Fips197.{add_round_key, inv_mix_columns, inv_shift_rows, inv_sub_bytes, last_round, round};
+ghost use Rattle.fast_aes.specs.Words.{inv_turn, spread};
 
-use super::columns::{inv_substituted, mixed, substituted, unmixed};
+use super::columns::{mixed, substituted, unmixed};
+use super::td::Back;
+use super::te::Forth;
 use block::Block;
 
 pub(super) type State = [u32; 4];
 
+// No `From` for this and `join`: neither type is this crate's own.
 pub(super) fn split(b: Block) -> State
     ensures { spread result ≡ bytes_of (value b) }
 {
@@ -39,25 +42,39 @@ pub(super) fn add_key(k: &State, s: State) -> State
 pub(super) fn unmix(s: State) -> State
     ensures { spread result ≡ inv_mix_columns (spread s) }
 {
-    [unmixed(s[0]), unmixed(s[1]), unmixed(s[2]), unmixed(s[3])]
+    s.map(unmixed)
 }
 
+// A full round under each of the keys.
 // Four variables, and not an array, so that the compiler keeps the state in registers.
-pub(super) fn run_rounds(keys: &[State; 11], n: usize, start: State) -> State
-    requires { n < 11 }
-    ensures { spread result ≡ rounds (spreads keys.now) n (spread start) }
+pub(super) fn run_rounds(keys: &[State], start: State) -> State
+    ensures { spread result ≡ fold (λ s k. round (spread k) s) (spread start) keys.now }
 {
-    let s = add_key(&keys[0], start);
-    let mut a = s[0];
-    let mut b = s[1];
-    let mut c = s[2];
-    let mut d = s[3];
-    for i in 0..n {
-        let k = &keys[i + 1];
-        let e = mixed(a, b, c, d, k[0]);
-        let f = mixed(b, c, d, a, k[1]);
-        let g = mixed(c, d, a, b, k[2]);
-        let h = mixed(d, a, b, c, k[3]);
+    let [mut a, mut b, mut c, mut d] = start;
+    for k in keys {
+        let e = mixed::<Forth>(a, b, c, d, k[0]);
+        let f = mixed::<Forth>(b, c, d, a, k[1]);
+        let g = mixed::<Forth>(c, d, a, b, k[2]);
+        let h = mixed::<Forth>(d, a, b, c, k[3]);
+        a = e;
+        b = f;
+        c = g;
+        d = h;
+    }
+    [a, b, c, d]
+}
+
+// The inverse rounds, from the state before InvShiftRows and InvSubBytes on, with the keys from the last on. InvShiftRows takes
+// the words in another order: one text for both would have to change words of the state and of each key over, and be no plainer.
+pub(super) fn run_inv_rounds(keys: &[State], end: State) -> State
+    ensures { spread result ≡ fold (λ s k. inv_turn (spread k) s) (spread end) (reverse keys.now) }
+{
+    let [mut a, mut b, mut c, mut d] = end;
+    for k in keys.iter().rev() {
+        let e = mixed::<Back>(a, d, c, b, k[0]);
+        let f = mixed::<Back>(b, a, d, c, k[1]);
+        let g = mixed::<Back>(c, b, a, d, k[2]);
+        let h = mixed::<Back>(d, c, b, a, k[3]);
         a = e;
         b = f;
         c = g;
@@ -71,22 +88,22 @@ pub(super) fn last_round(k: &State, s: State) -> State
 {
     let [a, b, c, d] = s;
     [
-        substituted(a, b, c, d) ^ k[0],
-        substituted(b, c, d, a) ^ k[1],
-        substituted(c, d, a, b) ^ k[2],
-        substituted(d, a, b, c) ^ k[3],
+        substituted::<Forth>(a, b, c, d) ^ k[0],
+        substituted::<Forth>(b, c, d, a) ^ k[1],
+        substituted::<Forth>(c, d, a, b) ^ k[2],
+        substituted::<Forth>(d, a, b, c) ^ k[3],
     ]
 }
 
-// The last of the inverse rounds; it adds the key itself.
+// The last of the inverse rounds; it adds the key itself. Beside `last_round` for the reason that `run_inv_rounds` gives.
 pub(super) fn inv_last_round(k: &State, s: State) -> State
     ensures { spread result ≡ add_round_key (spread k.now) (inv_sub_bytes (inv_shift_rows (spread s))) }
 {
     let [a, b, c, d] = s;
     [
-        inv_substituted(a, d, c, b) ^ k[0],
-        inv_substituted(b, a, d, c) ^ k[1],
-        inv_substituted(c, b, a, d) ^ k[2],
-        inv_substituted(d, c, b, a) ^ k[3],
+        substituted::<Back>(a, d, c, b) ^ k[0],
+        substituted::<Back>(b, a, d, c) ^ k[1],
+        substituted::<Back>(c, b, a, d) ^ k[2],
+        substituted::<Back>(d, c, b, a) ^ k[3],
     ]
 }

@@ -12,6 +12,10 @@ use Rattle.gf256.proofs.Computed.{passes, passed}
 pub agree : (n : ℕ) (f g : ℕ → ℕ) → T (passes (λ x. eqb (f x) (g x)) n) → (x : ℕ) → x < n → f x ≡ g x
 agree n f g t x h = eqb→eq (f x) (g x) (passed (λ x. eqb (f x) (g x)) n t x h)
 
+-- the same of m functions each
+pub agree_each : (m n : ℕ) (f g : ℕ → ℕ → ℕ) → T (passes (λ k. passes (λ x. eqb (f k x) (g k x)) n) m) → (k : ℕ) → k < m → (x : ℕ) → x < n → f k x ≡ g k x
+agree_each m n f g t k p = agree n (f k) (g k) (passed (λ k. passes (λ x. eqb (f k x) (g k x)) n) m t k p)
+
 abbrev small : (ℕ → ℕ) → ℕ → Bool
 small f x = ltb (f x) 256
 

@@ -6,6 +6,8 @@ ghost use Rattle.gf256.specs.Columns.{dotted, product};
 ghost use Rattle.gf256.specs.Field.{gmul, inverse, xtime};
 ghost use Rattle.gf256.specs.Sbox.{inv_sbox, sbox};
 
+// Two tables, each proved by its own rule, and below a function for each: a trait with two types, as `fast_aes` has for its
+// eight columns, would be longer than the two functions.
 mod inv_sbox_table;
 mod sbox_table;
 
@@ -27,7 +29,7 @@ fn double(a: u8) -> u8
     (a << 1) ^ ((a >> 7) * 0x1b)
 }
 
-// Takes as many turns as `b` has bits, so the coefficient goes second.
+// Takes as many turns as `b` has bits, so the coefficient goes second. It halves and counts nothing, so a `for` has nothing to go over.
 pub fn mul(a: u8, b: u8) -> u8
     ensures { result ≡ gmul a b }
 {
@@ -50,7 +52,7 @@ fn dot(row: [u8; 4], v: [u8; 4]) -> u8
     (mul(v[0], row[0]) ^ mul(v[1], row[1])) ^ (mul(v[2], row[2]) ^ mul(v[3], row[3]))
 }
 
-// The matrix `m` times the column `v`.
+// The matrix `m` times the column `v`. The four rows are spelled out: a `map` over them would be no shorter.
 pub fn times(m: &[[u8; 4]; 4], v: [u8; 4]) -> [u8; 4]
     ensures { result ≡ product m.now v }
 {

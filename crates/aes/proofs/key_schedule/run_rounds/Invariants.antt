@@ -1,7 +1,7 @@
-use Rattle.std.proofs.Common.{◌≡◌, ℕ, List, [], get_or}
-use Rattle.aes.specs.Fips197.{add_round_key, rounds}
+use Rattle.std.proofs.Common.{◌≡◌, take}
+use Rattle.std.specs.List.{fold}
+use Rattle.aes.specs.Fips197.{round}
 use Rattle.aes.proofs.key_schedule.run_rounds.Given as goal
 
--- what the rounds start from is no variable of the loop, so this is said of any such state
-abbrev pub invariant-loop-i : goal.invariant-loop-i
-invariant-loop-i l = (start : List ℕ) → l.initial.s ≡ add_round_key (get_or l.keys 0 []) start → l.s ≡ rounds l.keys l.i start
+abbrev pub invariant-loop-k : goal.invariant-loop-k
+invariant-loop-k l = l.s ≡ fold (λ s k. round k s) l.initial.s (take l.k-index l.keys)

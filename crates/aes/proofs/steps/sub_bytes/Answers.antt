@@ -1,16 +1,11 @@
-use Rattle.std.proofs.Common.{get_or, rules}
+use Rattle.std.proofs.Common.{rules, get_or}
+use Rattle.std.proofs.lemmas.List.FromFn.{fill_by_all}
 use Rattle.gf256.specs.Sbox.{sbox}
 use Rattle.aes.specs.Fips197.{sub_bytes}
-use Rattle.aes.proofs.Filling.{filled_none, filled_more, filled_all}
 use Rattle.aes.proofs.steps.sub_bytes.Goals as goal
-
-pub loop-i-init : goal.loop-i-init
-loop-i-init c = filled_none (λ i. sbox (get_or c.args.s i 0)) c.args.s (search rules)
-
-pub loop-i-preserved : goal.loop-i-preserved
-loop-i-preserved c =
-    filled_more (λ i. sbox (get_or c.args.s i 0)) c.loop-i.t c.loop-i.i _ c.sub.ensures c.loop-i-test.true c.loop-i.invariant
 
 pub returns : goal.returns
 unfolding sub_bytes
-returns c = filled_all (λ i. sbox (get_or c.args.s i 0)) c.loop-i.t c.loop-i.i c.loop-i-test.false c.loop-i.invariant
+returns c =
+    let r = c.map.ensures.items in
+    fill_by_all (λ i. sbox (get_or c.args.s i 0)) c.map.result 16 0 r.long (λ k h. let w = r.at k 0 0 h in search rules)

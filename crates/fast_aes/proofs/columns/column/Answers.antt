@@ -1,15 +1,15 @@
 use Rattle.std.proofs.Common.{rules}
-use Rattle.gf256.specs.Columns.{mix_matrix}
-use Rattle.gf256.specs.Sbox.{sbox}
-use Rattle.gf256.proofs.Boxes.{sbox_lt}
 use Rattle.fast_aes.proofs.Gathering.{entry_bytes, gathered_is}
 use Rattle.fast_aes.proofs.columns.column.Goals as goal
 
 pub returns : goal.returns
-returns c =
+returns g c =
     let a = c.args in
-    gathered_is a.k c.at-4.result c.at-3.result c.at-2.result c.at.result mix_matrix (sbox a.p) (sbox a.q) (sbox a.r) (sbox a.s)
-    (entry_bytes mix_matrix 0 (sbox a.p) _ (sbox_lt a.p (search rules)) c.at-4.ensures)
-    (entry_bytes mix_matrix 1 (sbox a.q) _ (sbox_lt a.q (search rules)) c.at-3.ensures)
-    (entry_bytes mix_matrix 2 (sbox a.r) _ (sbox_lt a.r (search rules)) c.at-2.ensures)
-    (entry_bytes mix_matrix 3 (sbox a.s) _ (sbox_lt a.s (search rules)) c.at.ensures)
+    let m = g.D.Direction.matrix in
+    let f = g.D.Direction.boxed in
+    let small = g.met.D.Direction.boxed_lt in
+    gathered_is a.k c.at-4.result c.at-3.result c.at-2.result c.at.result m (f a.p) (f a.q) (f a.r) (f a.s)
+    (entry_bytes m 0 (f a.p) _ (small a.p (search rules)) c.at-4.ensures)
+    (entry_bytes m 1 (f a.q) _ (small a.q (search rules)) c.at-3.ensures)
+    (entry_bytes m 2 (f a.r) _ (small a.r (search rules)) c.at-2.ensures)
+    (entry_bytes m 3 (f a.s) _ (small a.s (search rules)) c.at.ensures)

@@ -5,5 +5,5 @@ use Rattle.fast_aes.proofs.columns.unmixed.Goals as goal
 
 pub returns : goal.returns
 returns c =
-    unmixed_is c.args.w _ _ _ _ _ (c.sub.ensures ∙ ap sbox c.first.ensures) (c.sub-2.ensures ∙ ap sbox c.second.ensures)
-    (c.sub-3.ensures ∙ ap sbox c.third.ensures) (c.sub-4.ensures ∙ ap sbox c.fourth.ensures) c.inv_column.ensures
+    unmixed_is c.args.w _ _ _ _ _ (c.sub.ensures ∙ ap sbox c.byte_at.ensures) (c.sub-2.ensures ∙ ap sbox c.byte_at-2.ensures)
+    (c.sub-3.ensures ∙ ap sbox c.byte_at-3.ensures) (c.sub-4.ensures ∙ ap sbox c.byte_at-4.ensures) c.column.ensures

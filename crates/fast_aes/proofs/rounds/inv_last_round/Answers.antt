@@ -8,4 +8,4 @@ unfolding spread
 returns c =
     let s = c.args.s in
     inv_last_is c.args.k.now (get_or s 0 0) (get_or s 1 0) (get_or s 2 0) (get_or s 3 0) _ _ _ _
-    c.inv_substituted.ensures c.inv_substituted-2.ensures c.inv_substituted-3.ensures c.inv_substituted-4.ensures
+    c.substituted.ensures c.substituted-2.ensures c.substituted-3.ensures c.substituted-4.ensures

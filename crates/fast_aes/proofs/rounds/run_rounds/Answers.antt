@@ -1,24 +1,17 @@
-use Rattle.std.proofs.Common.{◌≡◌, ℕ, ◌+◌, List, [], ◌∷◌, get_or, sym, ap, ◌∙◌, arith}
-use Rattle.aes.specs.Fips197.{round, rounds}
-use Rattle.aes.proofs.Turns.{rounds_more}
-use Rattle.fast_aes.specs.Words.{spread, spreads}
-use Rattle.fast_aes.proofs.Turning.{round_is, spreads_at}
+use Rattle.std.proofs.Common.{[], ◌∷◌, get_or, take, sym, ap, ◌∙◌, arith}
+use Rattle.std.proofs.lemmas.List.{take_more}
+use Rattle.std.proofs.lemmas.List.Sums.{fold_push}
+use Rattle.aes.specs.Fips197.{round}
+use Rattle.fast_aes.specs.Words.{spread}
+use Rattle.fast_aes.proofs.Turning.{round_is}
 use Rattle.fast_aes.proofs.rounds.run_rounds.Goals as goal
 
-pub loop-i-init : goal.loop-i-init
-loop-i-init c start e = e
-
-pub loop-i-preserved : goal.loop-i-preserved
-loop-i-preserved c start e =
-    let l = c.loop-i in
+pub loop-k-preserved : goal.loop-k-preserved
+loop-k-preserved c =
+    let l = c.loop-k in
     let ks = c.args.keys.now in
-    let s : List ℕ = spread (l.a ∷ l.b ∷ l.c ∷ l.d ∷ []) in
-    rounds_more (spreads ks) l.i start s _ (l.invariant start e)
-    (round_is (get_or ks (l.i + 1) []) l.a l.b l.c l.d _ _ _ _ c.mixed-e.ensures c.mixed-f.ensures c.mixed-g.ensures c.mixed-h.ensures
-    ∙ ap (λ (k : List ℕ). round k s) (sym (spreads_at ks (l.i + 1) (omega arith))))
-
-pub returns : goal.returns
-unfolding spread spreads
-returns c =
-    let e : c.loop-i.i ≡ c.args.n = omega arith in
-    c.loop-i.invariant (spread c.args.start) c.add_key-s.ensures ∙ ap (λ i. rounds (spreads c.args.keys.now) i (spread c.args.start)) e
+    let s = c.args.start in
+    let k = get_or ks l.k-index [] in
+    let turned = round_is k l.a l.b l.c l.d _ _ _ _ c.mixed-e.ensures c.mixed-f.ensures c.mixed-g.ensures c.mixed-h.ensures in
+    let pushed = fold_push (λ s k. round (spread k) s) (spread (get_or s 0 0 ∷ get_or s 1 0 ∷ get_or s 2 0 ∷ get_or s 3 0 ∷ [])) (take l.k-index ks) k in
+    rw (take_more ks l.k-index [] (omega arith)) (turned ∙ ap (round (spread k)) l.invariant ∙ sym pushed)

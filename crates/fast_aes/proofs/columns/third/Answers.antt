@@ -1,8 +1,0 @@
-use Rattle.std.proofs.Common.{◌/◌, ◌^◌, arith}
-use lib.Bits.{and_mask}
-use Rattle.fast_aes.specs.Words.{byte}
-use Rattle.fast_aes.proofs.columns.third.Goals as goal
-
-pub returns : goal.returns
-unfolding byte
-returns c = omega (arith, and_mask (c.args.w / 2 ^ 8) 8)

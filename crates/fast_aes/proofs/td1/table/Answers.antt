@@ -1,9 +1,0 @@
-use Rattle.gf256.specs.Field.{gmul, inverse}
-use Rattle.gf256.specs.Sbox.{inv_affine, inv_sbox}
-use Rattle.gf256.proofs.Boxes.{agree}
-use Rattle.fast_aes.specs.Words.{td}
-use Rattle.fast_aes.proofs.td1.table.Goals as goal
-
-pub returns : goal.returns
-unfolding inv_sbox inv_affine inverse gmul
-returns c = agree 256 _ (td 1) tt
