@@ -1,9 +1,10 @@
 -- The number of every refusal, and of the two marks.
-use Rattle.std.specs.Prelude.{ℕ, Bool, cond, Ok, Err, Result, ◌==◌}
+use Rattle.std.specs.Prelude.{◌≡◌, ℕ, ◌<◌, ◌≤◌, Bool, cond, Ok, Err, Result, MatchResult, ◌==◌}
 use Rattle.elmd.specs.declared.refusal.Refusal.{Refusal}
 use Rattle.elmd.specs.declared.refusal.Refusal.TheVariants.{OtherLabel, Interval, CheckLength, TagLength, SpareByte, HeadingLength, MessageLength, PieceTooLong, OutputShort, BytesMissing, NoChecks, StreamLength, Over, Spoiled, StreamComplete, RoomShort, BadCheck, StreamMissing, BadTag}
 use Rattle.elmd.specs.declared.refusal.Mark.{Mark}
 use Rattle.elmd.specs.declared.refusal.Mark.TheVariants.{Filled, Whole}
+use Rattle.elmd.specs.declared.refusal.UnknownMark.{UnknownMark}
 
 abbrev pub number : Refusal → ℕ
 number OtherLabel = 11
@@ -32,6 +33,10 @@ mark_number Whole = 1
 
 abbrev pub mark_of : ℕ → Mark
 mark_of k = cond (k == 1) Whole Filled
+
+-- what a byte is read as: the mark of that number, or an error where no mark has it
+abbrev pub Decodes : ℕ → Result Mark UnknownMark → Type 0
+Decodes n r = MatchResult r (λ mark. (n ≤ 1) × (mark ≡ mark_of n)) (λ e. (e.0 ≡ n) × (1 < n))
 
 -- a cause that comes before what follows
 abbrev pub refuse : {A : Type 0} → Bool → Refusal → Result A Refusal → Result A Refusal

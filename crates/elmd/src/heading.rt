@@ -13,9 +13,10 @@ use crate::state::{ClosedHeading, OpenHeading};
 use block::Block;
 use cipher::{Cipher, base_block};
 
-const HEADING_MOST: usize = 65536;
+pub const HEADING_MOST: usize = 65536;
 
-// The settings and the nonce are the chain's first block.
+// The settings and the nonce are the chain's first block. They come alone: the heading comes in pieces, so there is no
+// `Envelope` yet.
 pub fn open_heading<C: Cipher>(
     c: &mut C,
     settings: &[u8; 8],
@@ -43,29 +44,7 @@ pub fn open_heading<C: Cipher>(
 fn first_block(n: &[u8; 8], s: &[u8; 8]) -> Block
     ensures { value result ≡ of_bytes (n.now ++ s.now) }
 {
-    Block::from_bytes(&[
-        n[0], n[1], n[2], n[3], n[4], n[5], n[6], n[7], s[0], s[1], s[2], s[3], s[4], s[5], s[6],
-        s[7],
-    ])
-}
-
-fn push<C: Cipher>(h: &mut OpenHeading, c: &mut C, b: u8)
-    requires { h.old.len < 65536 }
-    ensures carried { Carried h.old h.new 1 }
-    ensures grows { Grows (C.Cipher.meaning c.old) h.old (b ∷ []) h.new }
-    ensures same { C.Cipher.meaning c.new ≡ C.Cipher.meaning c.old }
-{
-    let fill = h.len % 16;
-    let mut pending = h.pending;
-    pending[fill] = b;
-    h.pending = pending;
-    h.len += 1;
-    if fill == 15 {
-        let mask = h.mask.double();
-        let e = c.encrypt(Block::from_bytes(&pending).xor(mask.times3()));
-        h.chain = e.xor(h.chain.double());
-        h.mask = mask;
-    }
+    Block::new(u64::from_be_bytes(*n), u64::from_be_bytes(*s))
 }
 
 impl OpenHeading {
@@ -79,8 +58,38 @@ impl OpenHeading {
         if piece.len() > HEADING_MOST - self.len {
             return Err(Refusal::HeadingLength);
         }
-        push_all(self, c, piece);
+        self.push_all(c, piece);
         Ok(())
+    }
+
+    fn push<C: Cipher>(&mut self, c: &mut C, b: u8)
+        requires { self.old.len < 65536 }
+        ensures carried { Carried self.old self.new 1 }
+        ensures grows { Grows (C.Cipher.meaning c.old) self.old (b ∷ []) self.new }
+        ensures same { C.Cipher.meaning c.new ≡ C.Cipher.meaning c.old }
+    {
+        let fill = self.len % 16;
+        let mut pending = self.pending;
+        pending[fill] = b;
+        self.pending = pending;
+        self.len += 1;
+        if fill == 15 {
+            let mask = self.mask.double();
+            let e = c.encrypt(Block::from_bytes(&pending).xor(mask.times3()));
+            self.chain = e.xor(self.chain.double());
+            self.mask = mask;
+        }
+    }
+
+    fn push_all<C: Cipher>(&mut self, c: &mut C, piece: &[u8])
+        requires { self.old.len + length piece.now ≤ 65536 }
+        ensures carried { Carried self.old self.new (length piece.now) }
+        ensures grows { Grows (C.Cipher.meaning c.old) self.old piece.now self.new }
+        ensures same { C.Cipher.meaning c.new ≡ C.Cipher.meaning c.old }
+    {
+        for b in piece {
+            self.push(c, *b);
+        }
     }
 
     // No byte follows: a last block that is not whole is filled, and has a mask of its own.
@@ -131,16 +140,5 @@ impl ClosedHeading {
     {
         let ClosedHeading { settings, base, iv } = self;
         (settings, base, iv)
-    }
-}
-
-fn push_all<C: Cipher>(h: &mut OpenHeading, c: &mut C, piece: &[u8])
-    requires { h.old.len + length piece.now ≤ 65536 }
-    ensures carried { Carried h.old h.new (length piece.now) }
-    ensures grows { Grows (C.Cipher.meaning c.old) h.old piece.now h.new }
-    ensures same { C.Cipher.meaning c.new ≡ C.Cipher.meaning c.old }
-{
-    for i in 0..piece.len() {
-        push(h, c, piece[i]);
     }
 }

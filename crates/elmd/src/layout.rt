@@ -21,7 +21,7 @@ impl Settings {
         })
     }
 
-    // The settings that stand in eight bytes, for the cipher of this label.
+    // The settings that stand in eight bytes, for the cipher of this label. It takes two values, so it is no `TryFrom`.
     pub fn read(bytes: &[u8; 8], label: u8) -> Result<Settings, Refusal>
         ensures answer { told result ≡ settings_answer label bytes.now }
         ensures value { IfOk result (λ s. settings_bytes s ≡ bytes.now) }
@@ -48,11 +48,12 @@ impl Settings {
         })
     }
 
+    // Named like `read`, which it undoes: a `From` would not say which bytes these are.
     pub fn to_bytes(self) -> [u8; 8]
         ensures value { result ≡ settings_bytes self }
         ensures accepted { settings_answer self.label result ≡ Ok tt }
     {
-        let f = if self.short_tag { 1 } else { 0 };
+        let f = u8::from(self.short_tag);
         [self.label, 0, self.interval, f, 128, 0, 0, 0]
     }
 }

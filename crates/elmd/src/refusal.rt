@@ -1,5 +1,8 @@
-ghost use Rattle.std.specs.Prelude.{◌≡◌, if◌then◌else◌, Some, None, nat_lt};
-ghost use Rattle.elmd.specs.Refusals.{number, mark_number, mark_of};
+ghost use Rattle.std.specs.Prelude.{◌≡◌};
+ghost use Rattle.elmd.specs.Refusals.{number, mark_number, Decodes};
+
+use std::error::Error;
+use std::fmt;
 
 // Why a call of the seal refuses. Each cause has a number, by which the outside knows it.
 #[derive(Clone, Copy, PartialEq, Eq, Debug)]
@@ -35,11 +38,11 @@ pub enum Refusal {
     BadTag,
 }
 
-impl Refusal {
-    pub fn number(self) -> u8
-        ensures { result ≡ number self }
-    {
-        match self {
+impl From<Refusal> for u8 {
+    ghost from_gives = { λ why n. n ≡ number why };
+
+    fn from(why: Refusal) -> u8 {
+        match why {
             Refusal::OtherLabel => 11,
             Refusal::Interval => 12,
             Refusal::CheckLength => 13,
@@ -63,6 +66,36 @@ impl Refusal {
     }
 }
 
+impl fmt::Display for Refusal {
+    fn fmt<W: fmt::Write>(&self, f: &mut fmt::Formatter<W>) -> fmt::Result {
+        match self {
+            Refusal::OtherLabel => f.write_str("the settings are another cipher's"),
+            Refusal::Interval => f.write_str("an interval of checks above 127"),
+            Refusal::CheckLength => f.write_str("another length of checks than 128 bits"),
+            Refusal::TagLength => f.write_str("another length of the tag than 128 bits"),
+            Refusal::SpareByte => f.write_str("a spare byte of the settings that is not 0"),
+            Refusal::HeadingLength => f.write_str("a heading of more than 65,536 bytes"),
+            Refusal::MessageLength => {
+                f.write_str("a message of no byte or of more than 16,777,216")
+            }
+            Refusal::PieceTooLong => f.write_str("a piece longer than what is missing"),
+            Refusal::OutputShort => f.write_str("no room for the stream"),
+            Refusal::BytesMissing => f.write_str("bytes of the message are missing"),
+            Refusal::NoChecks => f.write_str("a stream without checks is opened whole"),
+            Refusal::StreamLength => f.write_str("no stream has this length and mark"),
+            Refusal::Over => f.write_str("the opening is over"),
+            Refusal::Spoiled => f.write_str("the opening is spoiled"),
+            Refusal::StreamComplete => f.write_str("all of the stream is in"),
+            Refusal::RoomShort => f.write_str("no room for the message"),
+            Refusal::BadCheck(j) => write!(f, "check {j} does not hold"),
+            Refusal::StreamMissing => f.write_str("bytes of the stream are missing"),
+            Refusal::BadTag => f.write_str("the last block or the tag does not hold"),
+        }
+    }
+}
+
+impl Error for Refusal {}
+
 // Whether the last block of a message is whole (its number is 1) or was filled (0).
 #[derive(Clone, Copy, PartialEq, Eq, Debug)]
 pub enum Mark {
@@ -70,23 +103,39 @@ pub enum Mark {
     Whole,
 }
 
-impl Mark {
-    pub fn number(self) -> u8
-        ensures { result ≡ mark_number self }
-    {
-        match self {
+impl From<Mark> for u8 {
+    ghost from_gives = { λ mark n. n ≡ mark_number mark };
+
+    fn from(mark: Mark) -> u8 {
+        match mark {
             Mark::Filled => 0,
             Mark::Whole => 1,
         }
     }
+}
 
-    pub fn from_number(n: u8) -> Option<Mark>
-        ensures { result ≡ (if nat_lt 1 n then None else Some (mark_of n)) }
-    {
+// A number that no mark has.
+#[derive(Clone, Copy, PartialEq, Eq, Debug)]
+pub struct UnknownMark(pub u8);
+
+impl TryFrom<u8> for Mark {
+    type Error = UnknownMark;
+
+    ghost try_from_gives = { Decodes };
+
+    fn try_from(n: u8) -> Result<Mark, UnknownMark> {
         match n {
-            0 => Some(Mark::Filled),
-            1 => Some(Mark::Whole),
-            _ => None,
+            0 => Ok(Mark::Filled),
+            1 => Ok(Mark::Whole),
+            _ => Err(UnknownMark(n)),
         }
     }
 }
+
+impl fmt::Display for UnknownMark {
+    fn fmt<W: fmt::Write>(&self, f: &mut fmt::Formatter<W>) -> fmt::Result {
+        write!(f, "no mark has the number {}", self.0)
+    }
+}
+
+impl Error for UnknownMark {}

@@ -26,9 +26,7 @@ impl Settings {
         }
         let places = (stream_length - 1) / 16;
         let tag = stream_length - 16 * places;
-        let Some(checks) = checks_among(places, self.interval as usize) else {
-            return Err(Refusal::StreamLength);
-        };
+        let checks = checks_among(places, usize::from(self.interval)).ok_or(Refusal::StreamLength)?;
         let blocks = places - checks;
         if blocks > BLOCKS_MOST {
             return Err(Refusal::StreamLength);

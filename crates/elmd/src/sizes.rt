@@ -10,7 +10,7 @@ use crate::refusal::{Mark, Refusal};
 use crate::settings::Settings;
 use block::Block;
 
-const MESSAGE_MOST: usize = 16_777_216;
+pub const MESSAGE_MOST: usize = 16_777_216;
 
 impl Mark {
     // The mark of a message of `n` bytes.
@@ -45,7 +45,7 @@ impl Settings {
             return Err(Refusal::MessageLength);
         }
         let l = (n + 15) / 16;
-        let h = checks_in(l, self.interval as usize);
+        let h = checks_in(l, usize::from(self.interval));
         Ok(16 * (l + h) + tag_length(self.short_tag, n - 16 * (l - 1)))
     }
 }

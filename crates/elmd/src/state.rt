@@ -4,6 +4,7 @@ use crate::settings::Settings;
 use block::Block;
 
 // A heading that still takes pieces: the chain over its whole blocks, and the bytes of the block that is not whole yet.
+// These lie in an array beside `len`, and in no Vec: the library takes no allocator, since a terminal's memory is fixed.
 #[derive(Drop)]
 pub struct OpenHeading {
     pub(crate) settings: Settings,

@@ -3,13 +3,13 @@ use Rattle.cipher.specs.Meaning.{base}
 use Rattle.elmd.specs.Stream.{pow}
 use Rattle.elmd.specs.Heading.{more, inner_head}
 use Rattle.elmd.proofs.Heads.{inner_more, held_less, held_none, full_block, longer}
-use Rattle.elmd.proofs.heading.push.Goals as goal
+use Rattle.elmd.proofs.state.OpenHeading.push.Goals as goal
 
 pub returns-then-fill-eq15 : goal.returns-then-fill-eq15
 returns-then-fill-eq15 g c = record {
   carried = record { settings_kept = refl; base_kept = refl; counted = refl };
   grows = λ u m o.
-      let h = c.args.h.now in
+      let h = c.args.self.now in
       let k = h.len in
       let b = c.args.b in
       let l : length h.pending ≡ 16 = search rules in
@@ -34,7 +34,7 @@ pub returns-else-fill-eq15 : goal.returns-else-fill-eq15
 returns-else-fill-eq15 g c = record {
   carried = record { settings_kept = refl; base_kept = refl; counted = refl };
   grows = λ u m o.
-      let h = c.args.h.now in
+      let h = c.args.self.now in
       let k = h.len in
       let b = c.args.b in
       let l : length h.pending ≡ 16 = search rules in
