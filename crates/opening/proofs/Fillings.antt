@@ -1,5 +1,5 @@
 -- Where the filling of a block begins.
-use Rattle.std.proofs.Common.{◌≡◌, ℕ, suc, ◌+◌, ◌-◌, ◌<◌, ◌≤◌, List, [], ◌∷◌, ◌++◌, length, get_or, take, drop, set, replicate, sym, ap, ◌∙◌, ⊎_elim, arith, length-append, take-append-drop}
+use Rattle.std.proofs.Common.{◌≡◌, ℕ, suc, ◌+◌, ◌-◌, ◌<◌, ◌≤◌, List, [], ◌∷◌, ◌++◌, length, get_or, take, drop, set, replicate, sym, refl, ap, ◌∙◌, ⊎_elim, arith, length-append, length-drop, take-append-drop}
 use Rattle.std.proofs.lemmas.Bool.{cases_lt, cases_eq}
 use Rattle.std.proofs.lemmas.List.{drop_more, get_or-drop, get_or_at, get_or-append_right, get_or-replicate, length-take-le, set_at, append-nil, append_assoc, take_all}
 use Rattle.block.specs.Bytes.{padded}
@@ -17,11 +17,6 @@ module _ (v : List ℕ) (size : length v ≡ 16) where
       front_filled v k size h ∙ ap (λ (x : ℕ). take k v ++ x ∷ replicate (15 - k) 0) (sym e) ∙ ap (λ (x : List ℕ). take k v ++ get_or v k 0 ∷ x) (sym z)
       ∙ ap (λ (x : List ℕ). take k v ++ x) (sym (drop_more v k 0 (omega arith))) ∙ take-append-drop k v
 
-  pub zeros_more : (k : ℕ) → k < 16 → get_or v k 0 ≡ 0 → drop (k + 1) v ≡ replicate (15 - k) 0 → drop k v ≡ replicate (16 - k) 0
-  zeros_more k h e z =
-      let n : suc (15 - k) ≡ 16 - k = omega arith in
-      drop_more v k 0 (omega arith) ∙ ap (λ (x : ℕ). x ∷ drop (k + 1) v) e ∙ ap (λ (x : List ℕ). 0 ∷ x) z ∙ ap (λ (i : ℕ). replicate i 0) n
-
   module _ (r : ℕ) (b : Begins80 v r) where
     cut : v ≡ take r v ++ 0x80 ∷ replicate (15 - r) 0
     cut = sym b.filled ∙ front_filled v r size b.few
@@ -38,29 +33,25 @@ module _ (v : List ℕ) (size : length v ≡ 16) where
         ap (λ (x : List ℕ). get_or x j 0) cut ∙ get_or-append_right (take r v) (0x80 ∷ replicate (15 - r) 0) r j 0 len (omega arith)
         ∙ ap (λ (i : ℕ). get_or (0x80 ∷ replicate (15 - r) 0) i 0) e ∙ get_or-replicate (15 - r) (j - r - 1) 0 0 (omega arith)
 
-  zero_at : (k j : ℕ) → drop k v ≡ replicate (16 - k) 0 → k ≤ j → j < 16 → get_or v j 0 ≡ 0
-  zero_at k j z h l =
-      let e : k + (j - k) ≡ j = omega arith in
-      sym (ap (λ (i : ℕ). get_or v i 0) e) ∙ sym (get_or-drop k v (j - k) 0) ∙ ap (λ (x : List ℕ). get_or x (j - k) 0) z ∙ get_or-replicate (16 - k) (j - k) 0 0 (omega arith)
+    -- it begins at the last byte that is not 0
+    pub filled_last : (k : ℕ) → k < 16 → (get_or v k 0 ≡ 0 → ⊥) → ((j : ℕ) → k + 1 ≤ j → j < length v → get_or v j 0 ≡ 0) → (r ≡ k) × (get_or v k 0 ≡ 0x80)
+    filled_last k h m after =
+        ⊎_elim (λ l. absurd (m (behind k l h)))
+        (λ g. ⊎_elim (λ x. (x, ap (λ (i : ℕ). get_or v i 0) (sym x) ∙ at_start)) (λ x. absurd (let f = b.few in let a = at_start in let z = after r (omega (arith, x)) (omega arith) in omega arith)) (cases_eq r k))
+        (cases_lt r k)
 
-  -- zeros from k on, so no filling begins there
-  pub not_behind : (k r : ℕ) → drop k v ≡ replicate (16 - k) 0 → k ≤ r → Begins80 v r → ⊥
-  not_behind k r z h b = let f = b.few in let a = at_start r b in let c = zero_at k r z h b.few in omega arith
+    pub filled_some : ((j : ℕ) → j < length v → get_or v j 0 ≡ 0) → ⊥
+    filled_some zeros = let f = b.few in let a = at_start in let z = zeros r (omega arith) in omega arith
 
-  -- and another byte at k, so none begins at all
-  pub no_filling : (k r : ℕ) → k < 16 → (get_or v k 0 ≡ 0x80 → ⊥) → (get_or v k 0 ≡ 0 → ⊥) → drop (k + 1) v ≡ replicate (15 - k) 0 → Begins80 v r → ⊥
-  no_filling k r h n m z b =
-      let e : 15 - k ≡ 16 - (k + 1) = omega arith in
-      ⊎_elim (λ l. m (behind r b k l h))
-      (λ g. ⊎_elim (λ x. n (ap (λ (i : ℕ). get_or v i 0) (sym x) ∙ at_start r b)) (λ x. not_behind (k + 1) r (z ∙ ap (λ (i : ℕ). replicate i 0) e) (omega (arith, x)) b) (cases_eq r k))
-      (cases_lt r k)
+pub all_zero : (xs : List ℕ) → ((j : ℕ) → j < length xs → get_or xs j 0 ≡ 0) → xs ≡ replicate (length xs) 0
+all_zero [] z = refl
+all_zero (x ∷ xs) z = ap (λ (y : ℕ). y ∷ xs) (z 0 (omega arith)) ∙ ap (λ (l : List ℕ). 0 ∷ l) (all_zero xs (λ j h. z (suc j) (omega arith)))
 
--- one place back
-pub back_one : (v : List ℕ) (k : ℕ) → 1 < k → k ≤ 16 → drop k v ≡ replicate (16 - k) 0 → drop (k - 1 + 1) v ≡ replicate (15 - (k - 1)) 0
-back_one v k l h z =
-    let a : k - 1 + 1 ≡ k = omega arith in
-    let b : 16 - k ≡ 15 - (k - 1) = omega arith in
-    ap (λ (i : ℕ). drop i v) a ∙ z ∙ ap (λ (i : ℕ). replicate i 0) b
+-- and behind it come zeros
+pub zeros_behind : (v : List ℕ) (k : ℕ) → length v ≡ 16 → ((j : ℕ) → k + 1 ≤ j → j < length v → get_or v j 0 ≡ 0) → drop (k + 1) v ≡ replicate (15 - k) 0
+zeros_behind v k size after =
+    let n : length (drop (k + 1) v) ≡ 15 - k = simp length-drop (omega arith) in
+    all_zero (drop (k + 1) v) (λ j h. get_or-drop (k + 1) v j 0 ∙ after (k + 1 + j) (omega arith) (omega (arith, length-drop (k + 1) v))) ∙ ap (λ (i : ℕ). replicate i 0) n
 
 -- the message bytes of a last block, and zeros in the place of its filling
 pub cleared : (p v : List ℕ) (k n : ℕ) → length p ≡ n → length v ≡ 16 → k < 16 → padded (take k v) ≡ v → set (p ++ v) (n + k) 0 ≡ p ++ (take k v ++ replicate (16 - k) 0)

@@ -12,7 +12,7 @@ use Rattle.elmd.proofs.Rows.{sum_same}
 use Rattle.elmd.proofs.Steps.{growing}
 use Rattle.opening.specs.declared.state.Reading.{Reading}
 use Rattle.opening.specs.declared.place.Opener.{Opener}
-use Rattle.opening.specs.Reading.{Reads}
+use Rattle.opening.specs.Reading.{ReadsPast, Reads}
 use Rattle.opening.specs.Open.{through}
 use Rattle.opening.specs.Judging.{EndRight}
 use Rattle.opening.specs.Segment.{There, Rest}
@@ -21,8 +21,8 @@ use Rattle.opening.proofs.Passing.{checks_more}
 use Rattle.opening.proofs.Words.{checks_in, checks_out}
 use Rattle.opening.proofs.Standings.{times_more, blocks_low, full_checks, full_fill}
 
-pub reads_start : (u : Frame) (r : Reading) → Reads u [] 0 r → Reads u [] (0 * t_of u) r
-reads_start u r ok = subst (λ (n : ℕ). Reads u [] n r) (sym (zero-mul (t_of u))) ok
+pub reads_start : (u : Frame) (r : Reading) → r.checks ≡ 0 → Reads u [] 0 r → Reads u [] (r.checks * t_of u) r
+reads_start u r e ok = subst (λ (n : ℕ). Reads u [] n r) (sym (ap (λ (n : ℕ). n * t_of u) e ∙ zero-mul (t_of u))) ok
 
 -- more bytes leave a reading and the checks before it
 pub reads_grown : (u : Frame) (s x : List ℕ) (i : ℕ) (r : Reading) → 16 * (i + i / t_of u) ≤ length s → Reads u s i r → Reads u (s ++ x) i r
@@ -34,7 +34,6 @@ reads_grown u s x i r h ok =
       masks = ok.masks;
       out_masks = ok.out_masks;
       sums = ok.sums ∙ sum_same (p_r u s) (p_r u (s ++ x)) i (λ n g. let q = quo_mono n i (t_of u) (omega arith) in (k.blocks_kept n (omega arith)).2);
-      counts = ok.counts;
       passed = ok.passed;
     }
 
@@ -71,10 +70,14 @@ module _ (u : Frame) (s x : List ℕ) (o : Opener) (ok : Opening u s o) where
   spot = let a = times_more j o.settings.interval in let b : j * t_of u ≡ j * o.settings.interval = ap (λ (n : ℕ). j * n) t_is in omega arith
 
   pub spot_le : 16 * (j * t_of u + j) ≤ length s
-  spot_le = let a = spot in let b = o.stands.2 in let d = ok.counted in omega arith
+  spot_le = let a = spot in let b = o.stands.1 in let d = ok.counted in omega arith
 
   pub reads_more : Reads u (s ++ x) (j * t_of u) o.state
   reads_more = let a = spot_le in let b = back in reads_grown u s x (j * t_of u) o.state (omega arith) ok.reads
+
+  -- the state stands behind j checks
+  pub reads_behind : ReadsPast u (s ++ x) (j * t_of u) j o.state
+  reads_behind = subst (λ (n : ℕ). ReadsPast u (s ++ x) (j * t_of u) n o.state) back reads_more
 
   pub checked_more : Checks u (s ++ x) j
   checked_more = checks_grown u s x j t_pos spot_le ok.checked
@@ -91,16 +94,16 @@ module _ (u : Frame) (s x : List ℕ) (o : Opener) (ok : Opening u s o) where
 
   -- a whole segment is held
   module _ (full : o.fill + length x ≡ 16 * o.settings.interval + 16) where
-    pub there : (held' : List ℕ) → o.fill ≤ length o.held → held' ≡ take o.fill o.held ++ (x ++ drop (o.fill + length x) o.held) → There u held' (s ++ x) (j * t_of u) (16 * o.settings.interval + 16)
+    pub there : (held' : List ℕ) → o.fill ≤ length o.held → held' ≡ take o.fill o.held ++ (x ++ drop (o.fill + length x) o.held) → There held' (s ++ x) (j * t_of u) j (16 * o.settings.interval + 16)
     there held' h q =
         let m : ℕ = 16 * o.settings.interval + 16 in
         let e : take m held' ≡ drop (16 * (j * t_of u + j)) (s ++ x) = ap (λ (n : ℕ). take n held') (sym full) ∙ holds_more held' h q in
         let d = length-drop (16 * (j * t_of u + j)) (s ++ x) in
         let a = counted_more in
         let b = spot in
-        let c = o.stands.2 in
+        let c = o.stands.1 in
         let short : length (drop (16 * (j * t_of u + j)) (s ++ x)) ≤ m = omega arith in
-        e ∙ sym (take_all m (drop (16 * (j * t_of u + j)) (s ++ x)) short) ∙ ap (λ (n : ℕ). take m (drop (16 * (j * t_of u + n)) (s ++ x))) (sym back)
+        e ∙ sym (take_all m (drop (16 * (j * t_of u + j)) (s ++ x)) short)
 
     module _ (r : Reading) (one : r.checks ≡ j + 1) where
       next_is : r.checks * t_of u ≡ j * t_of u + t_of u
@@ -109,14 +112,13 @@ module _ (u : Frame) (s x : List ℕ) (o : Opener) (ok : Opening u s o) where
       next_t : j * t_of u + o.settings.interval ≡ r.checks * t_of u
       next_t = let a = next_is in let b = t_is in omega arith
 
-      pub reads_next : Reads u (s ++ x) (j * t_of u + o.settings.interval) r → Reads u (s ++ x) (r.checks * t_of u) r
-      reads_next a = subst (λ (n : ℕ). Reads u (s ++ x) n r) next_t a
+      pub reads_next : ReadsPast u (s ++ x) (j * t_of u + o.settings.interval) (suc j) r → Reads u (s ++ x) (r.checks * t_of u) r
+      reads_next a =
+          let q : suc j ≡ r.checks * t_of u / t_of u = sym (add-one j) ∙ sym one ∙ sym (mul-div_cancel r.checks t_pos) in
+          subst (λ (n : ℕ). ReadsPast u (s ++ x) (r.checks * t_of u) n r) q (subst (λ (n : ℕ). ReadsPast u (s ++ x) n (suc j) r) next_t a)
 
-      pub checked_next : Check u (s ++ x) (suc (j * t_of u / t_of u)) → Checks u (s ++ x) r.checks
-      checked_next a = subst (Checks u (s ++ x)) (sym (one ∙ add-one j)) (checks_more u (s ++ x) j checked_more (subst (λ (n : ℕ). Check u (s ++ x) (suc n)) back a))
-
-      pub check_back : Check u (s ++ x) (suc j) → Check u (s ++ x) (suc (j * t_of u / t_of u))
-      check_back a = subst (λ (n : ℕ). Check u (s ++ x) (suc n)) (sym back) a
+      pub checked_next : Check u (s ++ x) (suc j) → Checks u (s ++ x) r.checks
+      checked_next a = subst (Checks u (s ++ x)) (sym (one ∙ add-one j)) (checks_more u (s ++ x) j checked_more a)
 
       pub written_next : (w : List ℕ) → released u (s ++ x) (j * t_of u + o.settings.interval) ≡ released u (s ++ x) (j * t_of u) ++ w → released u (s ++ x) (r.checks * t_of u) ≡ released u (s ++ x) (j * t_of u) ++ w
       written_next w e = ap (released u (s ++ x)) (sym next_t) ∙ e
@@ -126,7 +128,7 @@ module _ (u : Frame) (s x : List ℕ) (o : Opener) (ok : Opening u s o) where
           let a = next_is in
           let b = counted_more in
           let c = spot in
-          let d = o.stands.2 in
+          let d = o.stands.1 in
           let e = t_is in
           sym (drop_all (16 * (r.checks * t_of u + r.checks)) (s ++ x) (omega arith))
 
@@ -153,13 +155,16 @@ module _ (u : Frame) (s : List ℕ) (o : Opener) (ok : Opening u s o) (full : o.
   before : i + p ≡ pred o.shape.blocks
   before = let a = all in omega arith
 
-  pub rest_there : take (16 * p + 16 + o.shape.tag) o.held ≡ drop (16 * (i + i / t_of u)) s
+  pub rest_there : take (16 * p + 16 + o.shape.tag) o.held ≡ drop (16 * (i + o.state.checks)) s
   rest_there =
       let f = full_fill o full in
       let b = blocks_low o in
       let c = o.lies.0 in
       let e : 16 * p + 16 + o.shape.tag ≡ o.fill = omega arith in
-      ap (λ (n : ℕ). take n o.held) e ∙ ok.holds ∙ ap (λ (n : ℕ). drop (16 * (i + n)) s) (sym (back u s [] o ok))
+      ap (λ (n : ℕ). take n o.held) e ∙ ok.holds
+
+  pub reads_here : ReadsPast u s i o.state.checks o.state
+  reads_here = subst (λ (n : ℕ). ReadsPast u s i n o.state) (back u s [] o ok) ok.reads
 
   pub right_back : (q : ℕ) → Right u s k o.shape.blocks q → EndRight u s k (suc (i + p)) q
   right_back q x = subst (λ (n : ℕ). EndRight u s k n q) (sym all) (record { some = x.some; whole = x.whole; short = x.short; filled = x.filled; sized = x.sized; tagged = x.tagged })

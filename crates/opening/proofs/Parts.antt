@@ -2,32 +2,16 @@
 use Rattle.std.proofs.Common.{◌≡◌, ℕ, suc, pred, ◌+◌, ◌-◌, ◌*◌, ◌/◌, ◌≤◌, List, ◌++◌, take, replicate, sym, ap, ◌∙◌, subst, append_assoc, arith}
 use Rattle.block.specs.Bytes.{bytes_of}
 use Rattle.elmd.specs.declared.refusal.Refusal.{Refusal}
-use Rattle.elmd.specs.declared.refusal.Refusal.TheVariants.{OtherLabel, Interval, CheckLength, TagLength, SpareByte, HeadingLength, MessageLength, PieceTooLong, OutputShort, BytesMissing, NoChecks, StreamLength, Over, Spoiled, StreamComplete, RoomShort, BadCheck, StreamMissing, BadTag}
+use Rattle.elmd.specs.declared.refusal.Refusal.TheVariants.{BadCheck, BadTag}
 use Rattle.elmd.specs.Stream.{Frame, t_of, checks}
 use Rattle.elmd.specs.Opening.{released, Checks, last_r}
 use Rattle.opening.specs.declared.state.Reading.{Reading}
 use Rattle.opening.specs.Judging.{Cause, FirstBad, Passed, BadEnd, Good, EndRight}
 
 pub cause_map : (P Q : ℕ → Type 0) (S T : Type 0) → ((j : ℕ) → P j → Q j) → (S → T) → (e : Refusal) → Cause P S e → Cause Q T e
-cause_map P Q S T f g OtherLabel x = x
-cause_map P Q S T f g Interval x = x
-cause_map P Q S T f g CheckLength x = x
-cause_map P Q S T f g TagLength x = x
-cause_map P Q S T f g SpareByte x = x
-cause_map P Q S T f g HeadingLength x = x
-cause_map P Q S T f g MessageLength x = x
-cause_map P Q S T f g PieceTooLong x = x
-cause_map P Q S T f g OutputShort x = x
-cause_map P Q S T f g BytesMissing x = x
-cause_map P Q S T f g NoChecks x = x
-cause_map P Q S T f g StreamLength x = x
-cause_map P Q S T f g Over x = x
-cause_map P Q S T f g Spoiled x = x
-cause_map P Q S T f g StreamComplete x = x
-cause_map P Q S T f g RoomShort x = x
-cause_map P Q S T f g StreamMissing x = x
 cause_map P Q S T f g (BadCheck j) x = f j x
 cause_map P Q S T f g BadTag x = g x
+cause_map P Q S T f g e x = absurd x
 
 module _ (u : Frame) (s : List ℕ) (k l : ℕ) (some : 1 ≤ l) where
   less : l - 1 ≡ pred l

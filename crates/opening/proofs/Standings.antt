@@ -57,7 +57,7 @@ module _ (o : Opener) where
       (λ lt. let e = end_next lt in omega arith)
       (λ le.
       let e = end_last le in
-      let eq : j ≡ h = (let p = o.stands.1 in omega arith) in
+      let eq : j ≡ h = (let p = o.stands.0 in omega arith) in
       let m : j * (t + 1) ≡ h * (t + 1) = ap (λ (n : ℕ). n * (t + 1)) eq in
       let k = times_more h t in
       let b = blocks_high in
@@ -67,7 +67,7 @@ module _ (o : Opener) where
       (cases_lt j h)
 
   pub taken_next : j < h → o.taken < next_end o
-  taken_next lt = let e = end_next lt in let f = o.within.1 lt in let c = o.stands.2 in omega arith
+  taken_next lt = let e = end_next lt in let f = o.within.1 lt in let c = o.stands.1 in omega arith
 
   pub taken_le : o.taken ≤ next_end o
   taken_le = ⊎_elim (λ lt. let a = taken_next lt in omega arith) (λ le. let e = end_last le in let w = o.within.0 in omega arith) (cases_lt j h)
@@ -96,7 +96,7 @@ module _ (o : Opener) where
   -- all bytes are in: every check was judged, and the rest is held
   pub full_checks : o.size ≤ o.taken → j ≡ h
   full_checks f =
-      ⊎_elim (λ lt. absurd (let a = end_below lt in let b = taken_next lt in omega arith)) (λ le. let p = o.stands.1 in omega arith) (cases_lt j h)
+      ⊎_elim (λ lt. absurd (let a = end_below lt in let b = taken_next lt in omega arith)) (λ le. let p = o.stands.0 in omega arith) (cases_lt j h)
 
   pub full_fill : o.size ≤ o.taken → o.fill ≡ 16 * (l - h * t) + o.shape.tag
   full_fill f =
@@ -105,13 +105,13 @@ module _ (o : Opener) where
       let k = times_more h t in
       let b = blocks_low in
       let s = o.lies.3 in
-      let c = o.stands.2 in
+      let c = o.stands.1 in
       let w = o.within.0 in
       let p = o.lies.0 in
       omega arith
 
   pub fill_small : o.fill ≤ 2048
-  fill_small = let e = end_high in let g = taken_le in let c = o.stands.2 in let s = o.settings.ok in omega arith
+  fill_small = let e = end_high in let g = taken_le in let c = o.stands.1 in let s = o.settings.ok in omega arith
 
 -- some frame with these settings
 abbrev pub plain_frame : Settings → Frame

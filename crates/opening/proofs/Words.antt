@@ -7,7 +7,7 @@ use Rattle.std.proofs.lemmas.List.{append-nil}
 use Rattle.block.specs.Bytes.{Bytes}
 use Rattle.block.proofs.Bytes.{length_bytes_of}
 use Rattle.elmd.specs.declared.refusal.Refusal.{Refusal}
-use Rattle.elmd.specs.declared.refusal.Refusal.TheVariants.{OtherLabel, Interval, CheckLength, TagLength, SpareByte, HeadingLength, MessageLength, PieceTooLong, OutputShort, BytesMissing, NoChecks, StreamLength, Over, Spoiled, StreamComplete, RoomShort, BadCheck, StreamMissing, BadTag}
+use Rattle.elmd.specs.declared.refusal.Refusal.TheVariants.{BadCheck, BadTag}
 use Rattle.elmd.specs.Stream.{Frame, t_of, blocks, checks, check_spot, tag_spot, out_mask, stream}
 use Rattle.elmd.specs.Opening.{block_in, blocks_of, w_r, Check, Checks, Right, opened}
 use Rattle.elmd.specs.Laws.{Begins, Sound, MessageOf, Extends}
@@ -106,25 +106,9 @@ module _ (u : Frame) (sound : Sound u) (s : List ℕ) (bytes : Bytes s) (k : ℕ
       checks_hold u sound n s j hn.bytes hn.some (subst (λ (x : ℕ). j ≤ checks u x) (sym a) q) (long j q) (itself n e)
 
   not_bad : (n : List ℕ) → SealOf u s k n → (e : Refusal) → Cause (FirstBad u s h) (BadEnd u s k l) e → ⊥
-  not_bad n x OtherLabel c = c
-  not_bad n x Interval c = c
-  not_bad n x CheckLength c = c
-  not_bad n x TagLength c = c
-  not_bad n x SpareByte c = c
-  not_bad n x HeadingLength c = c
-  not_bad n x MessageLength c = c
-  not_bad n x PieceTooLong c = c
-  not_bad n x OutputShort c = c
-  not_bad n x BytesMissing c = c
-  not_bad n x NoChecks c = c
-  not_bad n x StreamLength c = c
-  not_bad n x Over c = c
-  not_bad n x Spoiled c = c
-  not_bad n x StreamComplete c = c
-  not_bad n x RoomShort c = c
   not_bad n x (BadCheck j) c = c.bad (seal_checked n x j c.most j c.some (le_refl j))
-  not_bad n x StreamMissing c = c
   not_bad n (hn, e) BadTag c = let a = (finish u sound S k m hm s bytes refl).1 (n, hn, e) in c.wrong a.0 a.1
+  not_bad n x e c = c
 
   module _ (q : ℕ) (right : Right u s k l q) where
     q_most : q ≤ 16

@@ -5,36 +5,22 @@ use Rattle.block.specs.Value.{value}
 use Rattle.block.specs.Bytes.{bytes_of, padded}
 use Rattle.cipher.specs.Meaning.{Meaning}
 use Rattle.elmd.specs.declared.refusal.Refusal.{Refusal}
-use Rattle.elmd.specs.declared.refusal.Refusal.TheVariants.{OtherLabel, Interval, CheckLength, TagLength, SpareByte, HeadingLength, MessageLength, PieceTooLong, OutputShort, BytesMissing, NoChecks, StreamLength, Over, Spoiled, StreamComplete, RoomShort, BadCheck, StreamMissing, BadTag}
+use Rattle.elmd.specs.declared.refusal.Refusal.TheVariants.{BadCheck, BadTag}
 use Rattle.elmd.specs.declared.settings.Settings.{Settings}
 use Rattle.elmd.specs.declared.shape.Shape.{Shape}
+use Rattle.elmd.specs.Refusals.{mark_number}
 use Rattle.elmd.specs.Settings.{settings_bytes}
 use Rattle.elmd.specs.Stream.{Frame, t_of, checks, tag_spot, tag_size}
 use Rattle.elmd.specs.Opening.{released, Check, Checks, Right, opened, last_r, tag_r}
+use Rattle.opening.specs.declared.state.Outline.{Outline}
 use Rattle.opening.specs.declared.state.Reading.{Reading}
 use Rattle.opening.specs.Reading.{Reads}
 
--- 0 and a refusal's own facts: which causes an opening past its lengths can have
+-- which causes an opening past its lengths can have, and a fact for each
 abbrev pub Cause : (check : ℕ → Type 0) (tag : Type 0) → Refusal → Type 0
-Cause check tag OtherLabel = ⊥
-Cause check tag Interval = ⊥
-Cause check tag CheckLength = ⊥
-Cause check tag TagLength = ⊥
-Cause check tag SpareByte = ⊥
-Cause check tag HeadingLength = ⊥
-Cause check tag MessageLength = ⊥
-Cause check tag PieceTooLong = ⊥
-Cause check tag OutputShort = ⊥
-Cause check tag BytesMissing = ⊥
-Cause check tag NoChecks = ⊥
-Cause check tag StreamLength = ⊥
-Cause check tag Over = ⊥
-Cause check tag Spoiled = ⊥
-Cause check tag StreamComplete = ⊥
-Cause check tag RoomShort = ⊥
 Cause check tag (BadCheck j) = check j
-Cause check tag StreamMissing = ⊥
 Cause check tag BadTag = tag
+Cause check tag e = ⊥
 
 -- check j is the first that does not hold
 pub record FirstBad (u : Frame) (s : List ℕ) (h j : ℕ) : Type 0 where
@@ -90,14 +76,15 @@ abbrev pub Ended : (u : Frame) (s : List ℕ) (k l : ℕ) → Option (Block × �
 Ended u s k l (Some x) = EndRight u s k l x.1 × (value x.0 ≡ last_r u s l k)
 Ended u s k l None = (q : ℕ) → EndRight u s k l q → ⊥
 
--- what stands at `at` is what a stream has behind its first p blocks
-abbrev pub Ends : Meaning → Settings → Reading → (k : ℕ) (bytes : List ℕ) (at : ℕ) → Option (Block × ℕ) → Type 0
-Ends c settings state k bytes at r =
-    (u : Frame) (s : List ℕ) (p : ℕ) → u.cipher ≡ c → settings_bytes settings ≡ u.settings → drop at bytes ≡ drop (16 * (p + p / t_of u)) s
-    → Reads u s p state → Ended u s k (suc p) r
+-- `bytes` are what a stream has behind its first p blocks
+abbrev pub Ends : Meaning → Outline → Reading → (bytes : List ℕ) → Option (Block × ℕ) → Type 0
+Ends c o state bytes r =
+    (u : Frame) (s : List ℕ) (p : ℕ) → u.cipher ≡ c → settings_bytes o.settings ≡ u.settings → bytes ≡ drop (16 * (p + p / t_of u)) s
+    → Reads u s p state → Ended u s (mark_number o.mark) (suc p) r
 
-abbrev pub Judges : Meaning → Settings → Reading → (k l : ℕ) (s : List ℕ) → Result ℕ Refusal → (part : List ℕ) → Type 0
-Judges c settings first k l s r part = (u : Frame) → u.cipher ≡ c → settings_bytes settings ≡ u.settings → Reads u s 0 first → Judged u s k l r part
+abbrev pub Judges : Meaning → Outline → Reading → (s : List ℕ) → Result ℕ Refusal → (part : List ℕ) → Type 0
+Judges c o first s r part =
+    (u : Frame) → u.cipher ≡ c → settings_bytes o.settings ≡ u.settings → Reads u s 0 first → Judged u s (mark_number o.mark) o.shape.blocks r part
 
 -- the layout fits a stream of S bytes
 pub record Fits (settings : Settings) (h : Shape) (S : ℕ) : Type 0 where

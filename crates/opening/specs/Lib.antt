@@ -1,4 +1,3 @@
-pub mod Guard
 pub mod Last
 pub mod Reading
 pub mod Judging

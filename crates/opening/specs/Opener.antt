@@ -64,6 +64,11 @@ refused_at ph.Filling o (Finish room) = finish_refusal o room
 abbrev pub refusal : Opener → Call → Option Refusal
 refusal o call = refused_at o.phase o call
 
+-- why a call was not admitted
+abbrev pub cause : Result Unit Refusal → Option Refusal
+cause (Ok x) = None
+cause (Err e) = Some e
+
 -- k more bytes are in
 pub record Moved (o : Opener) (k : ℕ) (o' : Opener) : Type 0 where
   pub settings_kept : o'.settings ≡ o.settings

@@ -1,42 +1,53 @@
 -- What the running state of an opening stands for.
-use Rattle.std.specs.Prelude.{◌≡◌, ℕ, suc, ◌+◌, ◌*◌, ◌/◌, ◌^◌, ◌<◌, Bool, true, List, take, drop, Decides, ◌≢◌, bit_xor}
+use Rattle.std.specs.Prelude.{◌≡◌, ℕ, suc, ◌+◌, ◌*◌, ◌/◌, ◌^◌, ◌<◌, List, Ok, Err, Result, bit_xor}
 use Rattle.block.specs.Field.{dbl, three, five}
 use Rattle.block.specs.Value.{value}
+use Rattle.block.specs.declared.raw.Block.{Block}
 use Rattle.cipher.specs.Meaning.{Meaning, base}
 use Rattle.elmd.specs.Stream.{Frame, t_of, pow, sum_to}
-use Rattle.elmd.specs.Opening.{w_r, p_r, Check, last_r, tag_r}
+use Rattle.elmd.specs.Opening.{block_in, w_r, p_r, Check}
 use Rattle.elmd.specs.declared.refusal.Mark.{Mark}
-use Rattle.elmd.specs.Sizes.{last_mask, stride}
+use Rattle.elmd.specs.declared.refusal.Refusal.{Refusal}
+use Rattle.elmd.specs.Sizes.{last_mask}
 use Rattle.opening.specs.declared.state.Reading.{Reading}
 
--- the first i blocks of a stream are read
-pub record Reads (u : Frame) (stream : List ℕ) (i : ℕ) (s : Reading) : Type 0 where
+-- the first i blocks of a stream are read, and j checks
+pub record ReadsPast (u : Frame) (stream : List ℕ) (i j : ℕ) (s : Reading) : Type 0 where
   pub small : base u.cipher < 2 ^ 128
   pub mixes : value s.w ≡ w_r u stream i
   pub masks : value s.mask ≡ pow i (base u.cipher)
-  pub out_masks : value s.out_mask ≡ five (pow (i + i / t_of u) (base u.cipher))
+  pub out_masks : value s.out_mask ≡ five (pow (i + j) (base u.cipher))
   pub sums : value s.sum ≡ sum_to (p_r u stream) i
-  pub counts : i ≡ i / t_of u * t_of u + s.since
-  pub passed : s.checks ≡ i / t_of u
+  pub passed : s.checks ≡ j
 
--- block i + 1 is read, with the check behind it where one is due
-pub record Read (u : Frame) (stream : List ℕ) (i : ℕ) (s : Reading) (s' : Reading) (b : ℕ) (good : Bool) : Type 0 where
-  pub reads : Reads u stream (suc i) s'
-  pub block : b ≡ p_r u stream (suc i)
-  pub judged : s.since + 1 ≡ t_of u → Decides good (Check u stream (suc (i / t_of u)))
-  pub free : (s.since + 1 ≢ t_of u) → good ≡ true
+-- the first i blocks of a stream are read, and the checks among them
+abbrev pub Reads : (u : Frame) (stream : List ℕ) (i : ℕ) → Reading → Type 0
+Reads u stream i s = ReadsPast u stream i (i / t_of u) s
 
--- what stands at `at` is what a stream has in the place of block i + 1
-abbrev pub Steps : Meaning → Reading → (t : ℕ) (bytes : List ℕ) (at : ℕ) → Reading → (b : ℕ) → Bool → Type 0
-Steps c s t bytes at s' b good =
-    (u : Frame) (stream : List ℕ) (i : ℕ) → u.cipher ≡ c → t_of u ≡ t
-    → take (stride t s.since) (drop at bytes) ≡ take (stride t s.since) (drop (16 * (i + i / t_of u)) stream)
-    → Reads u stream i s → Read u stream i s s' b good
+-- nothing is read
+pub record Unread (l iv : Block) (s : Reading) : Type 0 where
+  pub mixes : s.w ≡ iv
+  pub masks : s.mask ≡ l
+  pub out_masks : value s.out_mask ≡ five (value l)
+  pub sums : value s.sum ≡ 0
+  pub passed : s.checks ≡ 0
 
--- the last block and the tag behind p blocks
-abbrev pub Ends : Meaning → Reading → (k : ℕ) (bytes : List ℕ) (at : ℕ) → (last tag : ℕ) → Type 0
-Ends c s k bytes at last tag =
-    (u : Frame) (stream : List ℕ) (p : ℕ) → u.cipher ≡ c → drop at bytes ≡ drop (16 * (p + p / t_of u)) stream → Reads u stream p s → (last ≡ last_r u stream (suc p) k) × (tag ≡ tag_r u stream (suc p) k)
+-- v stands in the place of block i + 1: it is read as b
+abbrev pub Steps : Meaning → Reading → (v : ℕ) → Reading → (b : ℕ) → Type 0
+Steps c s v s' b =
+    (u : Frame) (stream : List ℕ) (i : ℕ) → u.cipher ≡ c → v ≡ block_in stream (i + i / t_of u) → Reads u stream i s
+    → ReadsPast u stream (suc i) (i / t_of u) s' × (b ≡ p_r u stream (suc i))
+
+-- check j + 1 holds exactly when there is an answer
+abbrev pub Past : (u : Frame) (stream : List ℕ) (i j : ℕ) → Result Reading Refusal → Type 0
+Past u stream i j (Ok s') = ReadsPast u stream i (suc j) s' × Check u stream (suc j)
+Past u stream i j (Err e) = Check u stream (suc j) → ⊥
+
+-- v stands in the place of check j + 1, behind the i blocks before it
+abbrev pub Passes : Meaning → Reading → (v : ℕ) → Result Reading Refusal → Type 0
+Passes c s v r =
+    (u : Frame) (stream : List ℕ) (i j : ℕ) → u.cipher ≡ c → i ≡ suc j * t_of u → v ≡ block_in stream (i + j) → ReadsPast u stream i j s
+    → Past u stream i j r
 
 -- the last block and the tag, from the state before it and what stands in its place
 abbrev pub last_pair : Meaning → Mark → (w mask out sum b : ℕ) → ℕ × ℕ

@@ -17,7 +17,7 @@ Tagged settings h = (1 ≤ h.tag) × (h.tag ≤ 16) × (1 ≤ settings.interval)
 
 -- `fill` bytes came since the last check
 abbrev pub Stands : Settings → Shape → Reading → (taken fill : ℕ) → Type 0
-Stands settings h state taken fill = (state.since ≡ 0) × (state.checks ≤ h.checks) × (taken ≡ 16 * (state.checks * (settings.interval + 1)) + fill)
+Stands settings h state taken fill = (state.checks ≤ h.checks) × (taken ≡ 16 * (state.checks * (settings.interval + 1)) + fill)
 
 -- and no other is complete
 abbrev pub Within : Settings → Shape → (S : ℕ) → Reading → (taken fill : ℕ) → Type 0

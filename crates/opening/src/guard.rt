@@ -1,27 +1,24 @@
 ghost use Rattle.std.specs.Prelude.{◌≡◌, length, replicate};
-ghost use Rattle.opening.specs.Guard.{left};
 
-pub(crate) fn zero(s: &mut [u8])
-    ensures { s.new ≡ replicate (length s.old) 0 }
-{
-    for x in s.iter_mut() {
-        *x = 0;
-    }
-}
-
-// Holds plaintext that is not verified yet: while it is armed, letting it go leaves zeros.
+// Holds plaintext that is not verified yet: letting it go leaves zeros.
 pub(crate) struct Wipe<'a> {
     pub(crate) out: &'a mut [u8],
-    pub(crate) armed: bool,
+}
+
+impl Wipe<'_> {
+    // The plaintext is verified and stays.
+    pub(crate) fn accept(self)
+        ensures { self.exit.0.now ≡ self.entry.out.now }
+    {
+        let Wipe { out: _ } = self;
+    }
 }
 
 impl Drop for Wipe<'_> {
     fn drop(self)
-        ensures { self.exit.0.now ≡ left self.entry.armed self.entry.out.now }
+        ensures { self.exit.0.now ≡ replicate (length self.entry.out.now) 0 }
     {
-        if self.armed {
-            zero(self.out);
-        }
-        let Wipe { out: _, armed: _ } = self;
+        self.out.fill(0);
+        let Wipe { out: _ } = self;
     }
 }

@@ -5,6 +5,7 @@ ghost use Rattle.block.specs.Bytes.{bytes_of, padded};
 ghost use Rattle.elmd.specs.Refusals.{mark_number};
 ghost use Rattle.opening.specs.Last.{Begins80, Ending};
 
+use crate::state::Outline;
 use block::Block;
 use elmd::refusal::Mark;
 use elmd::sizes::tag_length;
@@ -13,50 +14,39 @@ use elmd::sizes::tag_length;
 fn filling_start(v: &[u8; 16]) -> Option<usize>
     ensures { MatchOption result ((k : ℕ) → Begins80 v.now k → ⊥) (Begins80 v.now) }
 {
-    for k in (1..16usize).rev() {
-        if v[k] == 0x80 {
-            return Some(k);
-        }
-        if v[k] != 0 {
-            return None;
-        }
-    }
-    None
+    let k = v.iter().rposition(|&x| x != 0)?;
+    (k > 0 && v[k] == 0x80).then_some(k)
 }
 
 // How many message bytes the last block has, where block, mark and length of the tag go together.
-pub(crate) fn message_bytes(last: Block, mark: Mark, short: bool, tag: usize) -> Option<usize>
-    ensures { MatchOption result ((k : ℕ) → Ending (bytes_of (value last)) (mark_number mark) short tag k → ⊥) (Ending (bytes_of (value last)) (mark_number mark) short tag) }
+pub(crate) fn message_bytes(last: Block, outline: Outline) -> Option<usize>
+    ensures { MatchOption result ((k : ℕ) → Ending (bytes_of (value last)) (mark_number outline.mark) outline.settings.short_tag outline.shape.tag k → ⊥) (Ending (bytes_of (value last)) (mark_number outline.mark) outline.settings.short_tag outline.shape.tag) }
 {
-    match mark {
-        Mark::Whole => fitting(16, short, tag),
+    match outline.mark {
+        Mark::Whole => fitting(16, outline),
         Mark::Filled => {
             let v = last.to_bytes();
             let k = filling_start(&v)?;
-            fitting(k, short, tag)
+            fitting(k, outline)
         }
     }
 }
 
-fn fitting(k: usize, short: bool, tag: usize) -> Option<usize>
-    ensures { result ≡ (if nat_eq (if short then k else 16) tag then Some k else None) }
+fn fitting(k: usize, outline: Outline) -> Option<usize>
+    ensures { result ≡ (if nat_eq (if outline.settings.short_tag then k else 16) outline.shape.tag then Some k else None) }
 {
-    if tag_length(short, k) == tag {
-        Some(k)
-    } else {
-        None
-    }
+    (tag_length(outline.settings.short_tag, k) == outline.shape.tag).then_some(k)
 }
 
-// Whether the stream ends, from `at` on, with the first bytes of the tag; in the same time wherever they differ.
-pub(crate) fn tag_matches(tag: Block, stream: &[u8], at: usize) -> bool
-    requires { (at ≤ length stream.now) × (length stream.now ≤ at + 16) }
-    ensures { Decides result (take (length stream.now - at) (bytes_of (value tag)) ≡ drop at stream.now) }
+// Whether `end` are the first bytes of the tag; in the same time wherever they differ.
+pub(crate) fn tag_matches(tag: Block, end: &[u8]) -> bool
+    requires { length end.now ≤ 16 }
+    ensures { Decides result (take (length end.now) (bytes_of (value tag)) ≡ end.now) }
 {
     let bytes = tag.to_bytes();
     let mut diff = 0;
-    for i in 0..stream.len() - at {
-        diff |= bytes[i] ^ stream[at + i];
+    for (a, b) in bytes.iter().zip(end) {
+        diff |= a ^ b;
     }
     diff == 0
 }

@@ -2,11 +2,11 @@
 ghost use Rattle.std.specs.Prelude.{◌≡◌, ℕ, ◌+◌, ◌*◌, ◌<◌, ◌≤◌, true, false, List, ◌++◌, length};
 ghost use Rattle.elmd.specs.Stream.{Frame};
 ghost use Rattle.opening.specs.declared.place.Phase.TheVariants.{Over as IsOver};
-ghost use Rattle.opening.specs.Opener.{next_end, completes as Completing, put_refusal, finish_refusal, refusal, Moved, Judged, PutDone, FinishDone, Opening, Lets, Puts, PutMeans, Finishes, FinishMeans, Begun, Begins};
+ghost use Rattle.opening.specs.Opener.{next_end, completes as Completing, put_refusal, finish_refusal, refusal, cause, Moved, Judged, PutDone, FinishDone, Opening, Lets, Puts, PutMeans, Finishes, FinishMeans, Begun, Begins};
 
 use crate::place::{Call, Opener, Phase};
-use crate::segment::{copy_at, judge_rest, judge_segment};
-use crate::state::Reading;
+use crate::segment::{judge_rest, judge_segment};
+use crate::state::{Outline, Reading};
 use block::Block;
 use cipher::Cipher;
 use elmd::refusal::{Mark, Refusal};
@@ -34,14 +34,7 @@ impl Opener {
             },
             mark: Mark::Whole,
             size: 32,
-            state: Reading {
-                w: zero,
-                mask: zero,
-                out_mask: zero,
-                sum: zero,
-                since: 0,
-                checks: 0,
-            },
+            state: Reading::new(zero, zero),
             taken: 0,
             fill: 0,
             held: [0; 2048],
@@ -64,6 +57,7 @@ impl Opener {
         }
         let shape = match settings.shape(stream_length, mark) {
             Ok(shape) => shape,
+            // No `map_err` for a `?`: its closure would take the heading on both ways.
             Err(why) => return Err((why, h)),
         };
         let (_, base, iv) = h.into_parts();
@@ -72,14 +66,7 @@ impl Opener {
         place.shape = shape;
         place.mark = mark;
         place.size = stream_length;
-        place.state = Reading {
-            w: iv,
-            mask: base,
-            out_mask: base.times5(),
-            sum: Block::new(0, 0),
-            since: 0,
-            checks: 0,
-        };
+        place.state = Reading::new(base, iv);
         place.taken = 0;
         place.fill = 0;
         Ok(())
@@ -90,7 +77,7 @@ impl Opener {
         ensures { result ≡ next_end self.now }
     {
         if self.state.checks < self.shape.checks {
-            self.taken - self.fill + 16 * (self.settings.interval as usize + 1)
+            self.taken - self.fill + 16 * (usize::from(self.settings.interval) + 1)
         } else {
             self.size
         }
@@ -99,47 +86,43 @@ impl Opener {
     fn completes(&self, piece: usize) -> bool
         ensures { result ≡ Completing self.now piece }
     {
-        if self.state.checks < self.shape.checks {
-            self.next_end() - self.taken <= piece
-        } else {
-            false
-        }
+        self.state.checks < self.shape.checks && self.next_end() - self.taken <= piece
     }
 
-    fn put_refusal(&self, piece: usize, room: usize) -> Option<Refusal>
-        ensures { result ≡ put_refusal self.now piece room }
+    fn admit_put(&self, piece: usize, room: usize) -> Result<(), Refusal>
+        ensures { cause result ≡ put_refusal self.now piece room }
     {
         if piece > 0 && self.taken == self.size {
-            return Some(Refusal::StreamComplete);
+            return Err(Refusal::StreamComplete);
         }
-        if self.completes(piece) && room < 16 * self.settings.interval as usize {
-            return Some(Refusal::RoomShort);
+        if self.completes(piece) && room < 16 * usize::from(self.settings.interval) {
+            return Err(Refusal::RoomShort);
         }
-        None
+        Ok(())
     }
 
-    fn finish_refusal(&self, room: usize) -> Option<Refusal>
-        ensures { result ≡ finish_refusal self.now room }
+    fn admit_finish(&self, room: usize) -> Result<(), Refusal>
+        ensures { cause result ≡ finish_refusal self.now room }
     {
         if self.taken < self.size {
-            return Some(Refusal::StreamMissing);
+            return Err(Refusal::StreamMissing);
         }
-        let t = self.settings.interval as usize;
+        let t = usize::from(self.settings.interval);
         if room < 16 * (self.shape.blocks - self.shape.checks * t) {
-            return Some(Refusal::RoomShort);
+            return Err(Refusal::RoomShort);
         }
-        None
+        Ok(())
     }
 
-    // Why the call is refused in this phase, if it is.
-    fn refused(&self, call: Call) -> Option<Refusal>
-        ensures { result ≡ refusal self.now call }
+    // Refuses the call where this phase does not take it.
+    fn admit(&self, call: Call) -> Result<(), Refusal>
+        ensures { cause result ≡ refusal self.now call }
     {
         match (self.phase, call) {
-            (Phase::Over, _) => Some(Refusal::Over),
-            (Phase::Spoiled, _) => Some(Refusal::Spoiled),
-            (Phase::Filling, Call::Put { piece, room }) => self.put_refusal(piece, room),
-            (Phase::Filling, Call::Finish { room }) => self.finish_refusal(room),
+            (Phase::Over, _) => Err(Refusal::Over),
+            (Phase::Spoiled, _) => Err(Refusal::Spoiled),
+            (Phase::Filling, Call::Put { piece, room }) => self.admit_put(piece, room),
+            (Phase::Filling, Call::Finish { room }) => self.admit_finish(room),
         }
     }
 
@@ -150,9 +133,10 @@ impl Opener {
         ensures kept { (self.new.phase ≡ self.old.phase) × (self.new.state ≡ self.old.state) }
         ensures opens { (u : Frame) (s : List ℕ) → Opening u s self.old → Opening u (s ++ piece.now) self.new }
     {
-        copy_at(&mut self.held, self.fill, piece);
+        let end = self.fill + piece.len();
+        self.held[self.fill..end].copy_from_slice(piece);
         self.taken += piece.len();
-        self.fill += piece.len();
+        self.fill = end;
     }
 
     // Takes the piece that completes a check, and lets out the blocks before it where it is good.
@@ -167,17 +151,23 @@ impl Opener {
         ensures lets { (u : Frame) (s : List ℕ) → u.cipher ≡ C.Cipher.meaning c.old → Opening u s self.old → Lets u self.old (s ++ piece.now) result self.new out.new }
         ensures same { C.Cipher.meaning c.new ≡ C.Cipher.meaning c.old }
     {
-        let t = self.settings.interval as usize;
-        copy_at(&mut self.held, self.fill, piece);
-        let (next, good) = judge_segment(c, self.state, t, &mut self.held, out);
+        let t = usize::from(self.settings.interval);
+        self.held[self.fill..self.fill + piece.len()].copy_from_slice(piece);
+        let judged = judge_segment(c, self.state, t, &mut self.held, out);
         self.taken += piece.len();
         self.fill = 0;
-        self.state = next;
-        if !good {
-            self.phase = Phase::Spoiled;
-            return Err(Refusal::BadCheck(next.checks));
+        match judged {
+            Ok(next) => {
+                self.state = next;
+                Ok((piece.len(), 16 * t))
+            }
+            Err(why) => {
+                self.phase = Phase::Spoiled;
+                // A bad check counts too: its bytes are taken.
+                self.state.checks += 1;
+                Err(why)
+            }
         }
-        Ok((piece.len(), 16 * t))
     }
 
     // Takes bytes up to the end of the next check, and answers how many it took and how many it let out.
@@ -192,13 +182,10 @@ impl Opener {
         ensures puts { Puts (C.Cipher.meaning c.old) self.old piece.now out.old result self.new out.new }
         ensures same { C.Cipher.meaning c.new ≡ C.Cipher.meaning c.old }
     {
-        let call = Call::Put {
+        self.admit(Call::Put {
             piece: piece.len(),
             room: out.len(),
-        };
-        if let Some(why) = self.refused(call) {
-            return Err(why);
-        }
+        })?;
         let n = piece.len().min(self.next_end() - self.taken);
         if self.completes(piece.len()) {
             return self.complete(c, &piece[0..n], out);
@@ -214,22 +201,15 @@ impl Opener {
         ensures finishes { Finishes (C.Cipher.meaning c.old) self.old out.old result out.new }
         ensures same { C.Cipher.meaning c.new ≡ C.Cipher.meaning c.old }
     {
-        if let Some(why) = self.refused(Call::Finish { room: out.len() }) {
-            return Err(why);
-        }
-        let t = self.settings.interval as usize;
+        self.admit(Call::Finish { room: out.len() })?;
+        let t = usize::from(self.settings.interval);
         let n = self.shape.blocks - self.shape.checks * t - 1;
-        let (state, tag) = (self.state, self.shape.tag);
-        match judge_rest(
-            c,
-            state,
-            self.settings,
-            n,
-            tag,
-            &mut self.held,
-            self.mark,
-            out,
-        ) {
+        let outline = Outline {
+            settings: self.settings,
+            shape: self.shape,
+            mark: self.mark,
+        };
+        match judge_rest(c, self.state, outline, n, &mut self.held, out) {
             Some(k) => {
                 self.phase = Phase::Over;
                 Ok(k)

@@ -5,6 +5,8 @@ use elmd::refusal::Mark;
 use elmd::settings::Settings;
 use elmd::shape::Shape;
 
+// It stands beside the rest and is no enum around it: the place is fixed memory that `begin` fills anew, also when it is
+// over or spoiled.
 #[derive(Clone, Copy)]
 pub(crate) enum Phase {
     Filling,
@@ -13,6 +15,7 @@ pub(crate) enum Phase {
 }
 
 // What is asked of an opener: to take a piece of some length, or to end; with so much room for what is let out.
+// A phase and a call are matched together, so that no call is left out in a phase.
 #[derive(Clone, Copy)]
 pub(crate) enum Call {
     Put { piece: usize, room: usize },
@@ -21,6 +24,7 @@ pub(crate) enum Call {
 
 // An opening in parts. It holds back what came since the last good check, at most 127 blocks and a check, so that no
 // byte is let out before its check is good.
+// These lie in an array beside `fill`, and in no Vec: the library takes no allocator, since a terminal's memory is fixed.
 #[derive(Drop)]
 pub struct Opener {
     pub(crate) phase: Phase,

@@ -1,100 +1,78 @@
-// The blocks that an opener holds back, opened in their place and judged.
-ghost use Rattle.std.specs.Prelude.{◌≡◌, ℕ, ◌+◌, ◌*◌, ◌<◌, ◌≤◌, ◌++◌, length, take, drop, replicate};
-ghost use Rattle.elmd.specs.Refusals.{mark_number};
-ghost use Rattle.opening.specs.Segment.{Counted, Runs, Segments, LetOut, Rests, WroteRest};
+// The blocks that an opener holds back, opened in their place and judged. Letting them go wipes them.
+ghost use Rattle.std.specs.Prelude.{◌≡◌, ℕ, ◌+◌, ◌*◌, ◌<◌, ◌≤◌, length, take, replicate, MatchResult};
+ghost use Rattle.elmd.specs.declared.refusal.Refusal.TheVariants.{BadCheck};
+ghost use Rattle.opening.specs.Segment.{Runs, Segments, LetOut, Rests, WroteRest};
 
-use crate::guard::zero;
+use crate::guard::Wipe;
 use crate::judge_end;
-use crate::state::Reading;
-use crate::step::open_block;
+use crate::state::{Outline, Reading};
+use block::Block;
 use cipher::Cipher;
-use elmd::refusal::Mark;
-use elmd::settings::Settings;
+use elmd::refusal::Refusal;
 
-// Opens the first `n` blocks of `held` in their place; behind t of them stands a check, which is judged.
-fn open_run<C: Cipher>(
-    c: &mut C,
-    first: Reading,
-    t: usize,
-    held: &mut [u8],
-    n: usize,
-) -> (Reading, bool)
-    requires { ((first.since ≡ 0) × (first.checks < 1048577)) × ((n ≤ t) × (((1 ≤ t) × (t < 128)) × (16 * n + 16 ≤ length held.old))) }
-    ensures counts { Counted first t n result.0 }
-    ensures rest { drop (16 * n) held.new ≡ drop (16 * n) held.old }
-    ensures runs { Runs (C.Cipher.meaning c.old) first t n held.old result.0 (take (16 * n) held.new) result.1 }
+// Opens the blocks in their place.
+fn open_run<C: Cipher>(c: &mut C, first: Reading, held: &mut [u8]) -> Reading
+    ensures counts { result.checks ≡ first.checks }
+    ensures runs { Runs (C.Cipher.meaning c.old) first held.old result held.new }
     ensures same { C.Cipher.meaning c.new ≡ C.Cipher.meaning c.old }
 {
     let mut s = first;
-    let mut good = true;
-    for i in 0..n {
-        let (next, b, holds) = open_block(c, s, t, held, 16 * i);
+    // By index: the proof over `chunks_exact_mut` doesn't close, since behind such a loop nothing is known of `held`.
+    for i in 0..held.len() / 16 {
+        let (next, b) = s.open_block(c, Block::load(held, 16 * i));
         b.store(held, 16 * i);
-        good = holds;
         s = next;
     }
-    (s, good)
+    s
 }
 
-// Copies `piece` into `s` from `at` on.
-pub(crate) fn copy_at(s: &mut [u8], at: usize, piece: &[u8])
-    requires { at + length piece.now ≤ length s.old }
-    ensures { s.new ≡ take at s.old ++ (piece.now ++ drop (at + length piece.now) s.old) }
-{
-    let to = at + piece.len();
-    s[at..to].copy_from_slice(piece);
-}
-
-// Opens the `t` blocks before a check: where it is good they are let out. No plaintext stays.
+// Opens the `t` blocks before a check: where it is good they are let out.
 pub(crate) fn judge_segment<C: Cipher>(
     c: &mut C,
     first: Reading,
     t: usize,
     held: &mut [u8],
     out: &mut [u8],
-) -> (Reading, bool)
-    requires { ((first.since ≡ 0) × (first.checks < 1048577)) × (((1 ≤ t) × (t < 128)) × ((16 * t + 16 ≤ length held.old) × (16 * t ≤ length out.old))) }
-    ensures counts { (result.0.since ≡ 0) × (result.0.checks ≡ first.checks + 1) }
+) -> Result<Reading, Refusal>
+    requires { (first.checks < 1048577) × ((1 ≤ t) × ((16 * t + 16 ≤ length held.old) × (16 * t ≤ length out.old))) }
+    ensures counts { MatchResult result (λ s. s.checks ≡ first.checks + 1) (λ why. why ≡ BadCheck (first.checks + 1)) }
     ensures wiped { held.new ≡ replicate (length held.old) 0 }
-    ensures wrote { LetOut result.1 (16 * t) out.old out.new }
-    ensures judged { Segments (C.Cipher.meaning c.old) first t held.old result.0 out.new result.1 }
+    ensures wrote { LetOut (16 * t) result out.old out.new }
+    ensures judged { Segments (C.Cipher.meaning c.old) first t held.old result out.new }
     ensures same { C.Cipher.meaning c.new ≡ C.Cipher.meaning c.old }
 {
-    let (s, good) = open_run(c, first, t, held, t);
-    if !good {
-        zero(held);
-        return (s, false);
-    }
-    copy_at(out, 0, &held[0..16 * t]);
-    zero(held);
-    (s, true)
+    let n = 16 * t;
+    let guard = Wipe { out: held };
+    let held = &mut *guard.out;
+    let s = open_run(c, first, &mut held[..n]);
+    let check = Block::load(held, n);
+    let s = s.pass_check(c, check)?;
+    out[..n].copy_from_slice(&held[..n]);
+    Ok(s)
 }
 
-// Opens the last `n` + 1 blocks, behind which the tag stands: where the end is right they are let out. No plaintext stays.
+// Opens the last `n` + 1 blocks, behind which the tag stands: where the end is right they are let out.
 pub(crate) fn judge_rest<C: Cipher>(
     c: &mut C,
     first: Reading,
-    settings: Settings,
+    outline: Outline,
     n: usize,
-    tag: usize,
     held: &mut [u8],
-    mark: Mark,
     out: &mut [u8],
 ) -> Option<usize>
-    requires { ((first.since ≡ 0) × (first.checks < 1048577)) × ((n < settings.interval) × ((tag ≤ 16) × ((16 * n + 16 + tag ≤ length held.old) × (16 * n + 16 ≤ length out.old)))) }
+    requires { (n < outline.settings.interval) × ((outline.shape.tag ≤ 16) × ((16 * n + 16 + outline.shape.tag ≤ length held.old) × (16 * n + 16 ≤ length out.old))) }
     ensures wiped { held.new ≡ replicate (length held.old) 0 }
     ensures wrote { WroteRest result n out.old out.new }
-    ensures judged { Rests (C.Cipher.meaning c.old) settings first (mark_number mark) n (take (16 * n + 16 + tag) held.old) result out.new }
+    ensures judged { Rests (C.Cipher.meaning c.old) outline first n (take (16 * n + 16 + outline.shape.tag) held.old) result out.new }
     ensures same { C.Cipher.meaning c.new ≡ C.Cipher.meaning c.old }
 {
     let at = 16 * n;
-    let (s, _) = open_run(c, first, settings.interval as usize, held, n);
-    let Some(end) = judge_end(c, s, settings, tag, &held[0..at + 16 + tag], mark, at) else {
-        zero(held);
-        return None;
-    };
-    end.0.store(held, at);
-    copy_at(out, 0, &held[0..at + end.1]);
-    zero(held);
-    Some(at + end.1)
+    let guard = Wipe { out: held };
+    let held = &mut *guard.out;
+    let s = open_run(c, first, &mut held[..at]);
+    let end = &held[at..at + 16 + outline.shape.tag];
+    let (last, k) = judge_end(c, s, outline, end)?;
+    last.store(held, at);
+    out[..at + k].copy_from_slice(&held[..at + k]);
+    Some(at + k)
 }

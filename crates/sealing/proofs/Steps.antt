@@ -2,7 +2,7 @@
 use Rattle.std.proofs.Common.{◌≡◌, ℕ, suc, ◌+◌, ◌*◌, ◌/◌, List, ◌++◌, ap, ◌∙◌, ⊎_elim, suc-mul, arith}
 use Rattle.std.proofs.lemmas.Bool.{cases_eq}
 use lib.Bits.{bit_xor}
-use Rattle.block.specs.Field.{dbl, three, five}
+use Rattle.block.specs.Field.{dbl, three, five, mix}
 use Rattle.block.specs.Bytes.{bytes_of}
 use Rattle.block.specs.Value.{value}
 use Rattle.cipher.specs.Meaning.{base}
@@ -14,10 +14,10 @@ use Rattle.sealing.specs.declared.state.Running.{Running}
 use Rattle.sealing.specs.Running.{Runs}
 
 module _ (u : Frame) (m : List ℕ) (i : ℕ) (s : Running) (r : Runs u m i s) where
-  pub sealed_x : (b : ℕ) → b ≡ block_at m (suc i) → u.cipher.enc (bit_xor b (value s.mask)) ≡ inner_x u m (suc i)
+  sealed_x : (b : ℕ) → b ≡ block_at m (suc i) → u.cipher.enc (bit_xor b (value s.mask)) ≡ inner_x u m (suc i)
   sealed_x b e = let k = r.masks in cc
 
-  pub sealed_c : bit_xor (u.cipher.dec (bit_xor (inner_x u m (suc i)) (three (value s.w)))) (value s.out_mask) ≡ cipher_block u (inner_x u m) (suc i)
+  sealed_c : bit_xor (u.cipher.dec (bit_xor (inner_x u m (suc i)) (three (value s.w)))) (value s.out_mask) ≡ cipher_block u (inner_x u m) (suc i)
   unfolding cipher_block out_mask
   sealed_c = let w = r.mixes in let o = r.out_masks in cc
 
@@ -42,6 +42,16 @@ module _ (u : Frame) (m : List ℕ) (i : ℕ) (s : Running) (r : Runs u m i s) w
 
   abbrev grown_w : ℕ
   grown_w = bit_xor (inner_x u m (suc i)) (dbl (value s.w))
+
+  -- the mixing state and C[i + 1], as the calls of the cipher give them
+  pub sealed_by : (b e d o : ℕ) (p : ℕ × ℕ) → b ≡ block_at m (suc i) → e ≡ u.cipher.enc (bit_xor b (value s.mask)) → p ≡ mix e (value s.w) → o ≡ bit_xor d (value s.out_mask) → d ≡ u.cipher.dec p.0
+      → (p.1 ≡ grown_w) × (o ≡ cipher_block u (inner_x u m) (suc i))
+  sealed_by b e d o p eb ee ep eo ed =
+      let x : e ≡ inner_x u m (suc i) = ee ∙ sealed_x b eb in
+      let p0 = ap (λ (q : ℕ × ℕ). q.0) ep in
+      let p1 = ap (λ (q : ℕ × ℕ). q.1) ep in
+      let c = sealed_c in
+      (cc, cc)
 
   -- the state behind a block with no check
   pub runs_on : (s' : Running) → (s.since + 1 ≡ t_of u → ⊥) → value s'.w ≡ grown_w → value s'.mask ≡ dbl (value s.mask) → value s'.out_mask ≡ dbl (value s.out_mask)

@@ -17,6 +17,10 @@ abbrev pub bare : {A B : Type 0} → Result A (Refusal × B) → Result A Refusa
 bare (Ok x) = Ok x
 bare (Err p) = Err p.0
 
+-- how many bytes are in that are not sealed
+abbrev pub unsealed : Sealer → ℕ
+unsealed s = s.k - 16 * sealed_blocks s.n s.k
+
 -- a begun seal has accepted the bytes acc: it holds those that are not sealed yet
 pub record Sealing (u : Frame) (acc : List ℕ) (s : Sealer) : Type 0 where
   pub chosen : settings_bytes s.settings ≡ u.settings
@@ -51,17 +55,15 @@ abbrev pub Put : Sealer → (size : ℕ) (out : List ℕ) → Result ℕ Refusal
 Put s size out (Ok w) s' out' = Carried s s' size × (drop w out' ≡ drop w out)
 Put s size out (Err e) s' out' = (s' ≡ s) × (out' ≡ out)
 
--- an accepted one joins the bytes so far, and what is written goes on with the stream
-abbrev pub Handed : Meaning → Sealer → (piece : List ℕ) → Result ℕ Refusal → Sealer → (out : List ℕ) → Type 0
-Handed m s piece (Ok w) s' out =
-    (u : Frame) (acc : List ℕ) → u.cipher ≡ m → Sealing u acc s → Sealing u (acc ++ piece) s' × (front u (acc ++ piece) s' ≡ front u acc s ++ take w out)
-Handed m s piece (Err e) s' out = Unit {0}
+-- some bytes join those so far, and what is written goes on with the stream
+abbrev pub Grows : Meaning → Sealer → (part : List ℕ) → Sealer → (written : List ℕ) → Type 0
+Grows m s part s' written =
+    (u : Frame) (acc : List ℕ) → u.cipher ≡ m → Sealing u acc s → Sealing u (acc ++ part) s' × (front u (acc ++ part) s' ≡ front u acc s ++ written)
 
--- part of a piece: before and after are what stands written of the piece
-abbrev pub Grows : Meaning → Sealer → (part : List ℕ) → Sealer → (before after : List ℕ) → Type 0
-Grows m s part s' before after =
-    (u : Frame) (acc : List ℕ) → u.cipher ≡ m → Sealing u acc s
-    → Sealing u (acc ++ part) s' × ((old : List ℕ) → front u acc s ≡ old ++ before → front u (acc ++ part) s' ≡ old ++ after)
+-- so does an accepted piece
+abbrev pub Handed : Meaning → Sealer → (piece : List ℕ) → Result ℕ Refusal → Sealer → (out : List ℕ) → Type 0
+Handed m s piece (Ok w) s' out = Grows m s piece s' (take w out)
+Handed m s piece (Err e) s' out = Unit {0}
 
 -- a refused end hands the seal back, and writes nothing
 abbrev pub Finished : Sealer → (out : List ℕ) → Result (ℕ × Mark) (Refusal × Sealer) → List ℕ → Type 0

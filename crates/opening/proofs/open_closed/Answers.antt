@@ -1,4 +1,4 @@
-use Rattle.std.proofs.Common.{◌≡◌, ℕ, pred, ◌-◌, ◌*◌, ◌/◌, ◌^◌, ◌<◌, [], ◌++◌, length, drop, Ok, Err, Result, sym, refl, ap, ◌∙◌, subst, arith, length-take}
+use Rattle.std.proofs.Common.{◌≡◌, ℕ, pred, ◌*◌, ◌/◌, ◌^◌, ◌<◌, [], ◌++◌, length, drop, Ok, Err, Result, sym, refl, ap, ◌∙◌, subst, arith, length-take}
 use mir.Facts.{Fits-lt-pow}
 use Rattle.std.proofs.ByRecursion.{All-from_get_or}
 use Rattle.block.specs.Value.{value, value_lt}
@@ -22,14 +22,14 @@ err_not_ok e = let z : ◌≡◌ {A = ℕ} 0 1 = cc in omega arith
 
 pub overflow_mul-n : goal.overflow_mul-n
 overflow_mul-n g c =
-    let laid = c.in-Ok.ensures (frame_of (g.C.Cipher.meaning c.args.c.now) (settings_bytes c.into_parts.result.0) [] []) refl in
+    let laid = c.in_ok-shape.ensures (frame_of (g.C.Cipher.meaning c.args.c.now) (settings_bytes c.into_parts.result.0) [] []) refl in
     let m = laid.most in
     omega arith
 
 pub returns-then-out-n : goal.returns-then-out-n
 returns-then-out-n g c = record {
   opened = λ u ec cl.
-      let laid = c.in-Ok.ensures u (ap (λ (x : Settings). settings_bytes x) (ap (λ q. q.0) c.into_parts.ensures) ∙ cl.chosen) in
+      let laid = c.in_ok-shape.ensures u (ap (λ (x : Settings). settings_bytes x) (ap (λ q. q.0) c.into_parts.ensures) ∙ cl.chosen) in
       let l = laid.l_is in
       record {
         no_length = λ no. absurd (no laid.possible.0 laid.possible.1);
@@ -43,14 +43,14 @@ returns-then-out-n g c = record {
 pub open_part-requires : goal.open_part-requires
 open_part-requires g c =
     let u = frame_of (g.C.Cipher.meaning c.args.c.now) (settings_bytes c.into_parts.result.0) [] [] in
-    let laid = c.in-Ok.ensures u refl in
+    let laid = c.in_ok-shape.ensures u refl in
     let few = c.if-out-n.false in (
-      (refl, refl),
+      c.new.ensures.passed,
       (
         record {
           some = laid.some;
           most = laid.most;
-          h_is = laid.h_is ∙ ap (λ (n : ℕ). pred c.in-Ok.shape.blocks / n) (interval_is u c.into_parts.result.0 refl);
+          h_is = laid.h_is ∙ ap (λ (n : ℕ). pred c.in_ok-shape.shape.blocks / n) (interval_is u c.into_parts.result.0 refl);
           size = laid.size;
           tag_most = laid.tag_most;
         },
@@ -68,8 +68,8 @@ returns g c =
     let set : settings_bytes c.into_parts.result.0 ≡ u.settings = ap (λ (x : Settings). settings_bytes x) (ap (λ q. q.0) parts) ∙ cl.chosen in
     let bas = ap (λ q. value q.1) parts ∙ cl.based in
     let ivs = ap (λ q. value q.2) parts ∙ cl.started in
-    let l = (c.in-Ok.ensures u set).l_is in
-    let first = first_reads u s c.into_parts.result.1 _ bas ivs refl c.times5.ensures c.new.ensures refl refl in
+    let l = (c.in_ok-shape.ensures u set).l_is in
+    let first = first_reads u s c.into_parts.result.1 c.into_parts.result.2 _ bas ivs c.new.ensures in
     let lawful : Lawful u.cipher = subst (λ (m : Meaning). Lawful m) (sym ec) (g.met.C.Cipher.lawful c.args.c.now) in
     let small : iv u < 2 ^ 128 = (let b = value_lt c.into_parts.result.2 in subst (λ (n : ℕ). n < 2 ^ 128) ivs b) in
     (record { lawful = lawful; iv_lt = small }, subst (λ (n : ℕ). Judged u s k n c.open_part.result c.open_part.new.part) l (c.open_part.ensures.judged u ec set first)) in
@@ -77,9 +77,9 @@ returns g c =
     record {
       opened = λ u ec cl.
           let j = judged u ec cl in
-          let laid = c.in-Ok.ensures u (ap (λ (x : Settings). settings_bytes x) (ap (λ q. q.0) c.into_parts.ensures) ∙ cl.chosen) in
+          let laid = c.in_ok-shape.ensures u (ap (λ (x : Settings). settings_bytes x) (ap (λ q. q.0) c.into_parts.ensures) ∙ cl.chosen) in
           let l = laid.l_is in
-          let none : 16 * c.in-Ok.shape.blocks - 0 ≡ 16 * blocks_of u (length s) = omega arith in
+          let none : 16 * c.in_ok-shape.shape.blocks ≡ 16 * blocks_of u (length s) = omega arith in
           record {
             no_length = λ no. absurd (no laid.possible.0 laid.possible.1);
             no_room = λ m hm lt. absurd (let t = c.if-out-n.false in omega arith);
@@ -87,7 +87,7 @@ returns g c =
           };
       found = λ u ec cl.
           let j = judged u ec cl in
-          let p = (c.in-Ok.ensures u (ap (λ (x : Settings). settings_bytes x) (ap (λ q. q.0) c.into_parts.ensures) ∙ cl.chosen)).possible in
+          let p = (c.in_ok-shape.ensures u (ap (λ (x : Settings). settings_bytes x) (ap (λ q. q.0) c.into_parts.ensures) ∙ cl.chosen)).possible in
           seal_found u j.0 s bytes k p.0 p.1 c.open_part.result c.open_part.new.part j.1;
       same = c.open_part.ensures.same;
     }

@@ -1,31 +1,33 @@
-use Rattle.std.proofs.Common.{◌≡◌, ◌-◌, length, arith, rules}
-use Rattle.std.proofs.lemmas.List.{drop_all}
-use Rattle.opening.proofs.Fillings.{fill_here, zeros_more, not_behind, no_filling, back_one}
+use Rattle.std.proofs.Common.{◌≡◌, ℕ, ◌<◌, Bool, true, false, Option, Some, None, length, sym, refl, ◌∙◌, arith, rules}
+use Rattle.std.proofs.lemmas.Bool.{eq-eqb, eqb-true, le-ltb, true≢false}
+use Rattle.std.specs.Bool.{then_some}
+use Rattle.std.specs.Option.{MatchOption}
+use Rattle.opening.specs.Last.{Begins80}
+use Rattle.opening.proofs.Fillings.{fill_here, filled_last, filled_some, zeros_behind}
 use Rattle.opening.proofs.last.filling_start.Goals as goal
+use Rattle.opening.proofs.last.filling_start.Goals.{then-k-gt0, else-k-gt0}
 
-pub loop-k-init : goal.loop-k-init
-loop-k-init c = drop_all 16 c.args.v.now (let l : length c.args.v.now ≡ 16 = search rules in omega arith)
+pub returns-in_err-k : goal.returns-in_err-k
+returns-in_err-k c = rw c.from_residual.ensures (λ r b. filled_some c.args.v.now (search rules) r b (search rules))
 
-pub returns-then-v-k : goal.returns-then-v-k
-returns-then-v-k c =
-    let k = c.loop-k.k in
-    let v = c.args.v.now in
-    let z = back_one v k (omega arith) (omega arith) c.loop-k.invariant in
-    record { some = omega arith; few = omega arith; filled = fill_here v (search rules) (k - 1) (omega arith) c.if-v-k.true z }
-
-pub returns-then-v-k-ne0 : goal.returns-then-v-k-ne0
-returns-then-v-k-ne0 c = λ r b.
-    let k = c.loop-k.k in
-    let v = c.args.v.now in
-    let z = back_one v k (omega arith) (omega arith) c.loop-k.invariant in
-    no_filling v (search rules) (k - 1) r (omega arith) c.if-v-k.false c.if-v-k-ne0.true z b
-
-pub loop-k-preserved : goal.loop-k-preserved
-loop-k-preserved c =
-    let k = c.loop-k.k in
-    let v = c.args.v.now in
-    let z = back_one v k (omega arith) (omega arith) c.loop-k.invariant in
-    zeros_more v (search rules) (k - 1) (omega arith) c.if-v-k-ne0.false z
+-- an answer that is there by a flag
+by_flag : (P : Option ℕ → Type 0) (b : Bool) (k : ℕ) → (b ≡ true → P (Some k)) → (b ≡ false → P None) → P (then_some b k)
+by_flag P true k y n = y refl
+by_flag P false k y n = n refl
 
 pub returns : goal.returns
-returns c = λ r b. not_behind c.args.v.now (search rules) c.loop-k.k r c.loop-k.invariant (let s = b.some in omega arith) b
+returns c =
+    let v = c.args.v.now in
+    let k = c.in_ok-k.k in
+    let size : length v ≡ 16 = search rules in
+    let inside : k < length v = search rules in
+    let last = λ (r : ℕ) (b : Begins80 v r). filled_last v size r b k (omega arith) (search rules) (search rules) in
+    let P : Option ℕ → Type 0 = λ z. MatchOption z ((r : ℕ) → Begins80 v r → ⊥) (Begins80 v) in
+    rw c.then_some.ensures (elim c.if-k-gt0.branch [
+      | then-k-gt0 w ↦ by_flag P c.if-k-gt0.then_some k
+          (λ yes. let some = w.if-k-gt0.true in record { some = omega arith; few = omega arith; filled = fill_here v size k (omega arith) (eqb-true _ _ (sym w.then_some-is ∙ yes)) (zeros_behind v k size (search rules)) })
+          (λ no r b. let s = b.some in true≢false (sym (eq-eqb _ _ (last r b).1) ∙ sym w.then_some-is ∙ no))
+      | else-k-gt0 w ↦ by_flag P c.if-k-gt0.then_some k
+          (λ yes. absurd (true≢false (sym yes ∙ w.then_some-is ∙ le-ltb 0 k w.if-k-gt0.false)))
+          (λ no r b. let e = (last r b).0 in let s = b.some in let z = w.if-k-gt0.false in omega arith)
+    ])

@@ -1,7 +1,14 @@
-use Rattle.std.proofs.Common.{◌≡◌, take, drop}
+use Rattle.std.proofs.Common.{◌≡◌, take, length}
+use Rattle.std.specs.Iterator.Adapters.{zip_first, zip_second}
+use Rattle.std.specs.Slice.Iter.{iter_rest}
 use Rattle.opening.proofs.last.tag_matches.Given as goal
 
-abbrev pub invariant-loop-i : goal.invariant-loop-i
-invariant-loop-i l =
-    (l.diff ≡ 0 → take l.i l.bytes ≡ take l.i (drop l.at l.stream))
-    × (take l.i l.bytes ≡ take l.i (drop l.at l.stream) → l.diff ≡ 0)
+abbrev pub invariant-loop-a : goal.invariant-loop-a
+invariant-loop-a l =
+    let a = iter_rest (zip_first l.initial.a-iterator) in
+    let b = iter_rest (zip_second l.initial.a-iterator) in
+    let n = length l.yielded in
+    record {
+      alike : l.diff ≡ 0 → take n a ≡ take n b;
+      none : take n a ≡ take n b → l.diff ≡ 0;
+    }

@@ -1,14 +1,16 @@
-use Rattle.std.proofs.Common.{◌≡◌, ℕ, ◌+◌, ◌*◌, List, take, drop}
+use Rattle.std.proofs.Common.{◌≡◌, ℕ, ◌*◌, ◌≤◌, List, length, take, drop}
 use Rattle.elmd.specs.Stream.{Frame, t_of}
-use Rattle.opening.specs.Reading.{Reads}
-use Rattle.opening.specs.Segment.{Counted, There, Ran}
+use Rattle.opening.specs.Reading.{ReadsPast}
+use Rattle.opening.specs.Segment.{There, Ran}
 use Rattle.opening.proofs.segment.open_run.Given as goal
 
 abbrev pub invariant-loop-i : goal.invariant-loop-i
 invariant-loop-i g l =
     let m = g.C.Cipher.meaning in
-    (m l.c ≡ m l.initial.c)
-    × Counted l.initial.s l.t l.i l.s
-    × (drop (16 * l.i) l.held ≡ drop (16 * l.i) l.initial.held)
-    × ((u : Frame) (stream : List ℕ) (i : ℕ) → u.cipher ≡ m l.initial.c → t_of u ≡ l.t → There u l.initial.held stream i (16 * l.n + 16) → Reads u stream i l.initial.s
-    → Ran u stream l.t i l.i l.s (take (16 * l.i) l.held) l.good)
+    record {
+      same : m l.c ≡ m l.initial.c;
+      checks : l.s.checks ≡ l.initial.s.checks;
+      rest : drop (16 * l.i) l.held ≡ drop (16 * l.i) l.initial.held;
+      ran : (u : Frame) (stream : List ℕ) (i j n : ℕ) → u.cipher ≡ m l.initial.c → i ≡ j * t_of u → n ≤ t_of u → length l.initial.held ≡ 16 * n → There l.initial.held stream i j (16 * n)
+          → ReadsPast u stream i j l.initial.s → Ran u stream i j l.i l.s (take (16 * l.i) l.held);
+    }

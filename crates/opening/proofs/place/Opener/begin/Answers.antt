@@ -15,10 +15,11 @@ invariant_of-place c =
     let u = plain_frame s in
     let laid = c.in-Ok.ensures u refl in
     let t : 1 ≤ s.interval = (let z = c.if-settings-eq0.false in omega (arith, z)) in
-    let m = zero-mul (s.interval + 1) in record {
+    let k = c.new-place.ensures.passed in
+    let m : c.new-place.result.checks * (s.interval + 1) ≡ 0 = ap (λ (n : ℕ). n * (s.interval + 1)) k ∙ zero-mul (s.interval + 1) in record {
       lies = (laid.some, laid.most, laid.h_is ∙ ap (λ (n : ℕ). pred c.in-Ok.shape.blocks / n) (interval_is u s refl), laid.size);
       tagged = (laid.tag_some, laid.tag_most, t);
-      stands = (refl, omega arith, omega arith);
+      stands = (omega arith, omega arith);
       within = (omega arith, λ _. omega arith);
     }
 
@@ -31,23 +32,23 @@ returns c =
     record {
       begun = (
         subst (λ (x : Settings). 1 ≤ x.interval) es t,
-        record { filling = refl; chosen = es; sized = refl; marked = refl; none = refl; unchecked = refl },
+        record { filling = refl; chosen = es; sized = refl; marked = refl; none = refl; unchecked = c.new-place.ensures.passed },
         λ u e. c.in-Ok.ensures u (ap settings_bytes es ∙ e),
       );
       opens = λ u cl.
           let set : settings_bytes s ≡ u.settings = ap settings_bytes es ∙ cl.chosen in
           let bas = ap (λ q. value q.1) parts ∙ cl.based in
           let ivs = ap (λ q. value q.2) parts ∙ cl.started in
-          let first = first_reads u [] c.into_parts.result.1 _ bas ivs refl c.times5.ensures c.new.ensures refl refl in
+          let first = first_reads u [] c.into_parts.result.1 c.into_parts.result.2 _ bas ivs c.new-place.ensures in
           record {
             filling = refl;
             chosen = set;
             counted = refl;
             bytes = tt;
             started = subst (λ (n : ℕ). n < 2 ^ 128) ivs (value_lt c.into_parts.result.2);
-            reads = reads_start u _ first;
-            checked = λ k p h. absurd (omega arith);
-            holds = sym (Rattle.std.proofs.lemmas.List.drop_all (16 * (0 * t_of u + 0)) [] (omega arith));
+            reads = reads_start u _ c.new-place.ensures.passed first;
+            checked = λ k p h. absurd (let z = c.new-place.ensures.passed in omega arith);
+            holds = sym (Rattle.std.proofs.lemmas.List.drop_all (16 * (c.new-place.result.checks * t_of u + c.new-place.result.checks)) [] (omega arith));
             laid = c.in-Ok.ensures u set;
           };
     }

@@ -18,7 +18,7 @@ returns-then-completes g c =
     let x = c.args.piece.now in
     let tk = took_len o x c.min-n.result c.next_end.result c.min-n.ensures c.next_end.ensures in
     record {
-      done = put_judged o (length x) _ c.args.out.now c.complete.result c.complete.new.self c.complete.new.out c.in_default.ensures (sym c.completes.ensures ∙ c.if-completes.true) tk.1 c.complete.ensures.judged;
+      done = put_judged o (length x) _ c.args.out.now c.complete.result c.complete.new.self c.complete.new.out c.in_ok-admit.ensures (sym c.completes.ensures ∙ c.if-completes.true) tk.1 c.complete.ensures.judged;
       means = λ u s ec ok none t.
           let z = take (took o (length x)) x in
           let bx = All-take (λ (n : ℕ). n < 256) (took o (length x)) x (All-from_get_or (λ (n : ℕ). n < 256) x 0 (λ i h. Fits-lt-pow (c.type_inv.piece i))) in
@@ -37,7 +37,7 @@ returns g c =
     let tk = took_len o x c.min-n.result c.next_end.result c.min-n.ensures c.next_end.ensures in
     let kept = c.take_in.ensures.kept in
     record {
-      done = put_more o (length x) c.min-n.result c.args.out.now _ o' c.in_default.ensures (sym c.completes.ensures ∙ c.if-completes.false) tk.2 tk.1 c.take_in.ensures.moved kept.0 kept.1;
+      done = put_more o (length x) c.min-n.result c.args.out.now _ o' c.in_ok-admit.ensures (sym c.completes.ensures ∙ c.if-completes.false) tk.2 tk.1 c.take_in.ensures.moved kept.0 kept.1;
       means = λ u s ec ok none t. absurd (true≢false (sym t ∙ sym c.completes.ensures ∙ c.if-completes.false));
       puts = λ u s ec ok none. (
         subst (λ (z : List ℕ). Opening u (s ++ z) o') tk.0 (c.take_in.ensures.opens u s ok),

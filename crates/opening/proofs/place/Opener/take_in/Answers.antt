@@ -1,4 +1,5 @@
-use Rattle.std.proofs.Common.{ℕ, ◌<◌, ◌≤◌, length, refl, arith, rules}
+use Rattle.std.proofs.Common.{◌≡◌, ℕ, ◌+◌, ◌-◌, ◌<◌, ◌≤◌, length, refl, arith, rules}
+use Rattle.std.proofs.lemmas.List.{drop-drop}
 use mir.Facts.{Fits-lt-pow}
 use Rattle.std.proofs.ByRecursion.{All-from_get_or}
 use Rattle.opening.proofs.Standings.{end_next, end_le}
@@ -8,12 +9,12 @@ use Rattle.opening.proofs.place.Opener.take_in.Goals as goal
 pub invariant_of-self : goal.invariant_of-self
 invariant_of-self c =
     let o = c.args.self.now in
-    let cnt = o.stands.2 in
+    let cnt = o.stands.1 in
     let le = end_le o in
     let a = c.requires.0 in record {
       lies = o.lies;
       tagged = o.tagged;
-      stands = (o.stands.0, o.stands.1, omega arith);
+      stands = (o.stands.0, omega arith);
       within = (omega arith, λ lt. let e = end_next o lt in let b = c.requires.1 lt in omega arith);
     }
 
@@ -23,6 +24,7 @@ returns c =
     let x = c.args.piece.now in
     let bx = All-from_get_or (λ (n : ℕ). n < 256) x 0 (λ i h. Fits-lt-pow (c.type_inv.piece i)) in
     let long : o.fill ≤ length o.held = search rules in
+    let more : o.fill + length x - o.fill ≡ length x = omega arith in
     record {
       moved = record { settings_kept = refl; shape_kept = refl; mark_kept = refl; size_kept = refl; counted = refl };
       kept = (refl, refl);
@@ -34,7 +36,7 @@ returns c =
         started = ok.started;
         reads = reads_more u s x o ok;
         checked = checked_more u s x o ok;
-        holds = holds_more u s x o ok _ long c.copy_at.ensures;
+        holds = holds_more u s x o ok _ long (simp (c.copy_from_slice.ensures.after, more, drop-drop));
         laid = ok.laid;
       };
     }

@@ -1,8 +1,0 @@
-use Rattle.std.proofs.Common.{◌≡◌, ◌+◌, ◌-◌, length, arith}
-use Rattle.std.proofs.lemmas.List.{drop-drop}
-use Rattle.opening.proofs.segment.copy_at.Goals as goal
-
-pub returns : goal.returns
-returns c =
-    let e : c.args.at + length c.args.piece.now - c.args.at ≡ length c.args.piece.now = omega arith in
-    simp (c.copy_from_slice.ensures.after, e, drop-drop)
