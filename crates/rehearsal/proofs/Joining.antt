@@ -1,25 +1,24 @@
 -- Pieces joined one after another.
-use Rattle.std.proofs.Common.{◌≡◌, ℕ, ◌+◌, ◌<◌, ◌≤◌, ltb, List, [], ◌∷◌, ◌++◌, length, get_or, take, drop, Ok, Err, sym, refl, ap, ◌∙◌, ⊎_elim, append_assoc, arith, length-append, take-append-drop, Bor}
+use Rattle.std.proofs.Common.{◌≡◌, ℕ, ◌+◌, ◌<◌, ◌≤◌, ltb, List, [], ◌++◌, length, get_or, take, drop, Ok, Err, sym, ap, ◌∙◌, ⊎_elim, arith, length-append, take-append-drop, Bor}
 use Rattle.std.proofs.lemmas.Bool.{cond-true, cond-false, lt-ltb, le-ltb, cases_lt}
+use Rattle.std.proofs.lemmas.List.{take_more, flat_map_more}
+use Rattle.std.proofs.lemmas.List.Concat.{flat_map-append}
 use Rattle.elmd.specs.declared.refusal.Refusal.{Refusal}
 use Rattle.elmd.specs.declared.refusal.Refusal.TheVariants.{HeadingLength}
 use Rattle.elmd.specs.Heading.{add_answer}
-use Rattle.std.proofs.lemmas.List.{append-nil, take_more}
 use Rattle.rehearsal.specs.Joined.{joined_bytes}
 
-pub joined_append : (a b : List (Bor (List ℕ))) → joined_bytes (a ++ b) ≡ joined_bytes a ++ joined_bytes b
-joined_append [] b = refl
-joined_append (p ∷ a) b = ap (λ (z : List ℕ). p.now ++ z) (joined_append a b) ∙ sym (append_assoc p.now (joined_bytes a) (joined_bytes b))
+abbrev now : Bor (List ℕ) → List ℕ
+now p = p.now
 
 pub joined_more : (ps : List (Bor (List ℕ))) (i : ℕ) (d : Bor (List ℕ)) → i < length ps → joined_bytes (take (i + 1) ps) ≡ joined_bytes (take i ps) ++ (get_or ps i d).now
-joined_more ps i d h =
-    ap joined_bytes (take_more ps i d h) ∙ joined_append (take i ps) (get_or ps i d ∷ []) ∙ ap (λ (z : List ℕ). joined_bytes (take i ps) ++ z) (append-nil (get_or ps i d).now)
+joined_more ps i d h = ap joined_bytes (take_more ps i d h) ∙ sym (flat_map_more now [] (take i ps) (get_or ps i d))
 
 -- the pieces before and at i are no longer than all of them
 pub joined_fits : (ps : List (Bor (List ℕ))) (i : ℕ) → length (joined_bytes (take i ps)) ≤ length (joined_bytes ps)
 joined_fits ps i =
     let e : length (joined_bytes (take i ps)) + length (joined_bytes (drop i ps)) ≡ length (joined_bytes ps) =
-    sym (length-append (joined_bytes (take i ps)) (joined_bytes (drop i ps))) ∙ ap length (sym (joined_append (take i ps) (drop i ps)) ∙ ap joined_bytes (take-append-drop i ps)) in
+    sym (length-append (joined_bytes (take i ps)) (joined_bytes (drop i ps))) ∙ ap length (sym (flat_map-append now (take i ps) (drop i ps)) ∙ ap joined_bytes (take-append-drop i ps)) in
     omega arith
 
 -- a refusal of a part is one of the whole

@@ -1,6 +1,6 @@
 -- One call on an opener.
-use Rattle.std.proofs.Common.{◌≡◌, ℕ, suc, ◌+◌, ◌-◌, ◌*◌, ◌<◌, ◌≤◌, min, Bool, true, false, cond, ◌&&◌, ltb, leb, List, [], ◌∷◌, ◌++◌, length, take, drop, Some, None, Ok, Err, Option, Result, sym, refl, ap, ◌∙◌, subst, inl, inr, ⊎_elim, le_refl, suc-mul, add-one, arith, length-append, length-take}
-use Rattle.std.proofs.lemmas.List.{append-nil, length-take-le}
+use Rattle.std.proofs.Common.{◌≡◌, ℕ, suc, ◌+◌, ◌-◌, ◌*◌, ◌<◌, ◌≤◌, min, Bool, true, false, cond, ◌&&◌, ltb, leb, List, [], ◌++◌, length, take, drop, Some, None, Ok, Err, Option, Result, sym, refl, ap, ◌∙◌, subst, inl, inr, ⊎_elim, le_refl, suc-mul, add-one, arith, length-append, length-take}
+use Rattle.std.proofs.lemmas.List.{append-nil, length-take-le, nil_from_length}
 use Rattle.std.proofs.lemmas.Bool.{cases_lt, cond-true, cond-false, lt-ltb, le-ltb, true≢false}
 use Rattle.cipher.specs.Meaning.{Meaning}
 use Rattle.elmd.specs.declared.refusal.Refusal.{Refusal}
@@ -20,9 +20,9 @@ use Rattle.opening.specs.Opener.{next_end, took, completes, put_call, finish_cal
 use Rattle.opening.proofs.Openings.{back, spot_le}
 use Rattle.opening.proofs.Standings.{end_next, full_checks}
 use Rattle.opening.proofs.Calls.{finish_open}
-use Rattle.rehearsal.specs.declared.open_calls.OpenAnswer.{OpenAnswer}
-use Rattle.rehearsal.specs.declared.open_calls.OpenAnswer.TheVariants.{Took, Opened, Refused}
-use Rattle.rehearsal.specs.OpenLaw.{Progress, filling, spoiled, over, in_all, among, takes, more, completes_at, put_refusal_at, finish_refusal_at, Unless, PutTurn, FinishTurn, Stands, At, Released, Within, PutDoes, FinishDoes, Plain, Checked, GoodCheck, BadCheck, Ends, GoodEnd, BadEnd}
+use Rattle.rehearsal.specs.declared.calls.Taken.TheVariants.{Took, Opened}
+use Rattle.rehearsal.specs.Calls.{Within}
+use Rattle.rehearsal.specs.OpenLaw.{Told, Progress, filling, spoiled, over, in_all, among, takes, more, completes_at, put_refusal_at, finish_refusal_at, Unless, PutTurn, FinishTurn, Stands, At, Released, PutDoes, FinishDoes, Plain, Checked, GoodCheck, BadCheck, Ends, GoodEnd, BadEnd}
 use Rattle.rehearsal.specs.OpenLaw as law
 use Rattle.rehearsal.proofs.Standings.{laid, t_eq, h_eq, j_eq, keeps_filling}
 
@@ -30,17 +30,17 @@ abbrev pub put_count : Result (ℕ × ℕ) Refusal → ℕ
 put_count (Ok x) = x.1
 put_count (Err e) = 0
 
-abbrev pub put_answer : Result (ℕ × ℕ) Refusal → OpenAnswer
-put_answer (Ok x) = Took x.0 x.1
-put_answer (Err e) = Refused e
+abbrev pub put_answer : Result (ℕ × ℕ) Refusal → Told
+put_answer (Ok x) = Ok (Took x.0 x.1)
+put_answer (Err e) = Err e
 
 abbrev pub end_count : Result ℕ Refusal → ℕ
 end_count (Ok n) = n
 end_count (Err e) = 0
 
-abbrev pub end_answer : Result ℕ Refusal → OpenAnswer
-end_answer (Ok n) = Opened n
-end_answer (Err e) = Refused e
+abbrev pub end_answer : Result ℕ Refusal → Told
+end_answer (Ok n) = Ok (Opened n)
+end_answer (Err e) = Err e
 
 pub option_cases : (v : Option Refusal) (P : Option Refusal → Type 0) → ((e : Refusal) → v ≡ Some e → P (Some e)) → (v ≡ None → P None) → P v
 option_cases (Some e) P f g = f e refl
@@ -57,7 +57,7 @@ none_more : (w : List ℕ) (n : ℕ) (out : List ℕ) → n ≡ 0 → w ≡ w ++
 none_more w n out e = sym (append-nil w) ∙ ap (λ (i : ℕ). w ++ take i out) (sym e)
 
 -- a refusal
-stays : (u : Frame) (S k : ℕ) (b : Progress) (o o' : Opener) (n : ℕ) (out' : List ℕ) (x : OpenAnswer) (e : Refusal) → x ≡ Refused e → o' ≡ o → n ≡ 0 → At u S k b o → Out u S k b o' n out' (λ a. (x ≡ Refused e) × (a ≡ b))
+stays : (u : Frame) (S k : ℕ) (b : Progress) (o o' : Opener) (n : ℕ) (out' : List ℕ) (x : Told) (e : Refusal) → x ≡ Err e → o' ≡ o → n ≡ 0 → At u S k b o → Out u S k b o' n out' (λ a. (x ≡ Err e) × (a ≡ b))
 stays u S k b o o' n out' x e ex eo en at = (b, (ex, refl), subst (At u S k b) (sym eo) at, none_more b.let_out n out' en)
 
 -- a put that is not refused has its room
@@ -103,10 +103,6 @@ finish_within o out r o' out' d =
     option_cases (refusal o (finish_call (length out))) (λ _. Within (end_count r) out out')
     (λ e q. let z = d.refused e q in same_within (end_count r) out out' (ap end_count z.0) z.2)
     (λ q. end_within o out r o' out' (finish_open o (length out) (sym q)).1 (d.judged q))
-
-no_length : (w : List ℕ) → length w ≡ 0 → w ≡ []
-no_length [] e = refl
-no_length (x ∷ w) e = absurd (omega arith)
 
 five : {A : Type 0} (f : ℕ → ℕ → ℕ → ℕ → ℕ → A) (a b c d e a' b' c' d' e' : ℕ) → a ≡ a' → b ≡ b' → c ≡ c' → d ≡ d' → e ≡ e' → f a b c d e ≡ f a' b' c' d' e'
 five f a b c d e a' b' c' d' e' p q r s t = cc
@@ -203,7 +199,7 @@ module _ (u : Frame) (S k : ℕ) (b : Progress) (o : Opener) (sound : Sound u) (
           let e0 : x.0 ≡ takes u S k b piece = ap (λ (q : ℕ × ℕ). q.0) d.0 ∙ took_is piece in
           let e1 : x.1 ≡ 16 * t_of u = ap (λ (q : ℕ × ℕ). q.1) d.0 ∙ ap (λ (n : ℕ). 16 * n) (t_eq u S k s o st.0 st.1 st.2) in
           let wf = w.fits in
-          let g : GoodCheck u S k b piece (Took x.0 x.1) (gone x.1 out') = record {
+          let g : GoodCheck u S k b piece (Ok (Took x.0 x.1)) (gone x.1 out') = record {
             extends = good o'.state.checks d.3 op.checked op.bytes;
             answer = cc;
             phase_is = refl;
@@ -213,9 +209,9 @@ module _ (u : Frame) (S k : ℕ) (b : Progress) (o : Opener) (sound : Sound u) (
           (gone x.1 out', record { taken_is = refl; judged = inl g }, grown x.1 _ o' out' op rel d.1, refl)
       judge out (Err e) o' out' w len d never =
           let a : Progress = record { phase = spoiled; taken = s'; let_out = b.let_out } in
-          let g : BadCheck u S k b piece (Refused e) a = record {
+          let g : BadCheck u S k b piece (Err e) a = record {
             no_message = bad never;
-            answer = ap Refused d.0 ∙ ap (λ (n : ℕ). Refused (why.BadCheck (n + 1))) (j_eq u S k s o st.0 st.1 st.2);
+            answer = ap Err d.0 ∙ ap (λ (n : ℕ). Err (why.BadCheck (n + 1))) (j_eq u S k s o st.0 st.1 st.2);
             phase_is = refl;
             none = refl;
           } in
@@ -250,7 +246,7 @@ module _ (u : Frame) (S k : ℕ) (b : Progress) (o : Opener) (sound : Sound u) (
   over_keeps : (m out' : List ℕ) (n : ℕ) → b.let_out ++ take n out' ≡ m → MessageOf u S k m → stream u m ≡ s → length s ≡ S → (x : List ℕ) → MessageOf u S k x → Begins s (stream u x) → Begins (b.let_out ++ take n out') x
   over_keeps m out' n e hm em ns x hx (rest, g) =
       let z : length rest ≡ 0 = (let a = sym (length-append s rest) ∙ ap length g ∙ hx.size in omega arith) in
-      let nil : rest ≡ [] = no_length rest z in
+      let nil : rest ≡ [] = nil_from_length rest z in
       let same : stream u x ≡ s = sym g ∙ ap (λ (y : List ℕ). s ++ y) nil ∙ append-nil s in
       ([], append-nil (b.let_out ++ take n out') ∙ e ∙ injectivity u sound S k m x hm hx (em ∙ sym same))
 
@@ -272,7 +268,7 @@ module _ (u : Frame) (S k : ℕ) (b : Progress) (o : Opener) (sound : Sound u) (
       let tl : length (take n out') ≡ n = length-take-le n out' (omega arith) in
       let size : n ≡ length m - length b.let_out = (let e = sym (length-append b.let_out (take n out')) ∙ ap length out-is in omega arith) in
       let a : Progress = record { phase = over; taken = s; let_out = b.let_out ++ take n out' } in
-      let g : GoodEnd u S k b (Opened n) a = record { message = m; of = f.0; whole = f.1; answer = ap (λ (x : ℕ). Opened x) size; phase_is = refl; all = out-is } in
+      let g : GoodEnd u S k b (Ok (Opened n)) a = record { message = m; of = f.0; whole = f.1; answer = ap (λ (x : ℕ). Ok (Opened x)) size; phase_is = refl; all = out-is } in
       (a, record { taken_is = refl; judged = inl g }, record { stands = d.3; keeps = λ x hx bg. over_keeps m out' n out-is f.0 f.1 ns x hx bg }, refl)
   end_judge out (Err e) o' out' len le w d never =
       let la = laid u S k s o st.0 st.1 st.2 in
@@ -283,7 +279,7 @@ module _ (u : Frame) (S k : ℕ) (b : Progress) (o : Opener) (sound : Sound u) (
       let none : Sealed u S k s → ⊥ = λ x.
       let y = (finish u sound S k pm.0 pm.1 s st.0.bytes ns).1 x in
       never y.0 (subst (λ (z : ℕ). Right u s z o.shape.blocks y.0) (sym st.2) (subst (λ (z : ℕ). Right u s k z y.0) (sym la.l_is) y.1)) in
-      let g : BadEnd u S k b (Refused e) a = record { no_message = none; answer = ap Refused d.0; phase_is = refl; none = refl } in
+      let g : BadEnd u S k b (Err e) a = record { no_message = none; answer = ap Err d.0; phase_is = refl; none = refl } in
       (a, record { taken_is = refl; judged = inr g }, record { stands = d.2; keeps = at.keeps }, none_more b.let_out 0 out' refl)
 
   finish_filling : (M : Meaning) (out : List ℕ) (r : Result ℕ Refusal) (o' : Opener) (out' : List ℕ) → u.cipher ≡ M → length out' ≡ length out → FinishDone o out r o' out' → Finishes M o out r out'
@@ -308,7 +304,7 @@ module _ (M : Meaning) (o : Opener) (out : List ℕ) (o' : Opener) (out' : List 
       let z = d.refused why.Over (ap (λ (x : Phase). refused_at x o (put_call (length piece) (length out))) st) in
       stays u S k b o o' (put_count r) out' (put_answer r) why.Over (ap put_answer z.0) z.1 (ap put_count z.0) at
 
-  pub put_does : (piece : List ℕ) (r : Result (ℕ × ℕ) Refusal) → PutDone o (length piece) out r o' out' → Puts M o piece out r o' out' → PutDoes M o piece out (put_count r) (put_answer r) o' out'
+  pub put_does : (piece : List ℕ) (r : Result (ℕ × ℕ) Refusal) → PutDone o (length piece) out r o' out' → Puts M o piece out r o' out' → PutDoes M o piece (length out) o' (take (put_count r) out') (put_answer r)
   put_does piece r d p u S k b ec sound at = put_at piece r d p u S k b ec sound at b.phase at.stands
 
   finish_at : (r : Result ℕ Refusal) → FinishDone o out r o' out' → Finishes M o out r out'
@@ -322,5 +318,5 @@ module _ (M : Meaning) (o : Opener) (out : List ℕ) (o' : Opener) (out' : List 
       let z = d.refused why.Over (ap (λ (x : Phase). refused_at x o (finish_call (length out))) st) in
       stays u S k b o o' (end_count r) out' (end_answer r) why.Over (ap end_answer z.0) z.1 (ap end_count z.0) at
 
-  pub finish_does : (r : Result ℕ Refusal) → FinishDone o out r o' out' → Finishes M o out r out' → FinishDoes M o out (end_count r) (end_answer r) o' out'
+  pub finish_does : (r : Result ℕ Refusal) → FinishDone o out r o' out' → Finishes M o out r out' → FinishDoes M o (length out) o' (take (end_count r) out') (end_answer r)
   finish_does r d p u S k b ec sound at = finish_at r d p u S k b ec sound at b.phase at.stands

@@ -1,20 +1,14 @@
--- From what a driven sealer or opener does to what its side of a rehearsal comes to.
-use Rattle.std.proofs.Common.{◌≡◌, ℕ, List, Ok, Err, Result, sym, refl, ap, ◌∙◌, ⊎_elim, arith}
+-- From what a driven opener does to what its side of a rehearsal comes to.
+use Rattle.std.proofs.Common.{◌≡◌, ℕ, List, Ok, Err, Result, refl, ap, ◌∙◌, ⊎_elim, arith}
 use Rattle.cipher.specs.Meaning.{Meaning}
 use Rattle.elmd.specs.declared.refusal.Refusal.{Refusal}
 use Rattle.elmd.specs.declared.state.ClosedHeading.{ClosedHeading}
-use Rattle.elmd.specs.Refusals.{told}
 use Rattle.elmd.specs.Stream.{Frame}
 use Rattle.elmd.specs.Heading.{Closes}
 use Rattle.elmd.proofs.Counts.{interval_is}
-use Rattle.sealing.specs.Handing.{begin_answer}
-use Rattle.rehearsal.specs.declared.seal_calls.SealCall.{SealCall}
-use Rattle.rehearsal.specs.declared.seal_calls.SealAnswer.{SealAnswer}
-use Rattle.rehearsal.specs.declared.open_calls.OpenCall.{OpenCall}
-use Rattle.rehearsal.specs.declared.open_calls.OpenAnswer.{OpenAnswer}
-use Rattle.rehearsal.specs.SealLaw.{Law, Untouched}
-use Rattle.rehearsal.specs.OpenLaw.{RefusedWhen, LawAt, Untouched as Behind}
-use Rattle.rehearsal.specs.Law.{front_of, SealerSide, OpenerSide}
+use Rattle.rehearsal.specs.declared.calls.Call.{Call}
+use Rattle.rehearsal.specs.OpenLaw.{Told, RefusedWhen, LawAt, Untouched}
+use Rattle.rehearsal.specs.Law.{front_of, OpenerSide}
 
 abbrev refused : Result Unit Refusal → ℕ
 refused (Ok x) = 0
@@ -23,20 +17,8 @@ refused (Err e) = 1
 ok_err : (e : Refusal) → ◌≡◌ {A = Result Unit Refusal} (Ok tt) (Err e) → ⊥
 ok_err e z = let n : ◌≡◌ {A = ℕ} 0 1 = ap refused z in omega arith
 
-pub seal_side : (u : Frame) (h : ClosedHeading) (m : Meaning) (n : ℕ) (calls : List SealCall) (answers answers' : List SealAnswer) (out out' : List ℕ) (r : Result ℕ Refusal)
-    → Ok tt ≡ front_of u → u.cipher ≡ m → Closes u h → told r ≡ begin_answer n → Untouched r answers answers' out out' → Law m h n calls answers answers' out out' r
-    → SealerSide u n calls answers answers' out out' r
-seal_side u h m n calls answers answers' out out' (Ok w) front same closes begins kept law =
-    record { no_heading = λ e q. absurd (ok_err e (front ∙ q)); not_begun = λ e _ q. absurd (ok_err e (begins ∙ q)); law = λ _ _. (w, refl, law u same closes) }
-seal_side u h m n calls answers answers' out out' (Err e) front same closes begins kept law =
-    record {
-      no_heading = λ e' q. absurd (ok_err e' (front ∙ q));
-      not_begun = λ e' _ q. let z : ◌≡◌ {A = Result Unit Refusal} (Err e) (Err e') = begins ∙ q in ((cc), kept.0, kept.1);
-      law = λ _ q. absurd (ok_err e (sym q ∙ sym begins));
-    }
-
-pub open_side : (u : Frame) (h : ClosedHeading) (m : Meaning) (S k : ℕ) (calls : List OpenCall) (answers answers' : List OpenAnswer) (out out' : List ℕ) (r : Result ℕ Refusal)
-    → Ok tt ≡ front_of u → u.cipher ≡ m → Closes u h → RefusedWhen h S k out answers r out' answers' → LawAt m h S k calls out answers r out' answers' → Behind calls out answers r out' answers'
+pub open_side : (u : Frame) (h : ClosedHeading) (m : Meaning) (S k : ℕ) (calls : List Call) (answers answers' : List Told) (out out' : List ℕ) (r : Result ℕ Refusal)
+    → Ok tt ≡ front_of u → u.cipher ≡ m → Closes u h → RefusedWhen h S k out answers r out' answers' → LawAt m h S k calls out answers r out' answers' → Untouched calls out answers r out' answers'
     → OpenerSide u S k calls answers answers' out out' r
 open_side u h m S k calls answers answers' out out' (Ok w) front same closes when law rest =
     let t = interval_is u h.settings closes.chosen in

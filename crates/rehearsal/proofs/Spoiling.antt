@@ -4,10 +4,9 @@ use Rattle.std.proofs.lemmas.List.{append-nil}
 use Rattle.elmd.specs.declared.refusal.Refusal.{Refusal}
 use Rattle.elmd.specs.Stream.{Frame, t_of}
 use Rattle.elmd.specs.Laws.{Extends, Sealed}
-use Rattle.rehearsal.specs.declared.open_calls.OpenCall.{OpenCall}
-use Rattle.rehearsal.specs.declared.open_calls.OpenCall.TheVariants.{Put, Finish}
-use Rattle.rehearsal.specs.declared.open_calls.OpenAnswer.{OpenAnswer}
-use Rattle.rehearsal.specs.OpenLaw.{Phase, filling, spoiled, over, Progress, start, in_all, among, put_refusal_at, completes_at, Unless, Puts, Ends, PutTurn, FinishTurn, Turn, OpenRun, RightlySpoiled}
+use Rattle.rehearsal.specs.declared.calls.Call.{Call}
+use Rattle.rehearsal.specs.declared.calls.Call.TheVariants.{Put, Finish}
+use Rattle.rehearsal.specs.OpenLaw.{Told, Phase, filling, spoiled, over, Progress, start, in_all, among, put_refusal_at, completes_at, Unless, Puts, Ends, PutTurn, FinishTurn, Turn, OpenRun, RightlySpoiled}
 
 abbrev is_spoiled : Phase → ℕ
 is_spoiled filling = 0
@@ -27,11 +26,11 @@ module _ (u : Frame) (S k : ℕ) where
   begins : (s : List ℕ) → Sealed u S k s → Extends u S k s
   begins s h = (h.0, h.1, ([], append-nil s ∙ sym h.2))
 
-  unless : (o : Option Refusal) (b a : Progress) (x : OpenAnswer) (next : Type 0) → Right b → (next → Right a) → Unless o b x a next → Right a
+  unless : (o : Option Refusal) (b a : Progress) (x : Told) (next : Type 0) → Right b → (next → Right a) → Unless o b x a next → Right a
   unless (Some e) b a x next ok f t = subst Right (sym t.1) ok
   unless None b a x next ok f t = f t
 
-  puts : (q : Bool) (b : Progress) (piece : List ℕ) (x : OpenAnswer) (a : Progress) → Puts u S k q b piece x a → Right a
+  puts : (q : Bool) (b : Progress) (piece : List ℕ) (x : Told) (a : Progress) → Puts u S k q b piece x a → Right a
   puts true b piece x a t =
       ⊎_elim
       (λ good e _. not_filling a.phase good.phase_is e)
@@ -39,14 +38,14 @@ module _ (u : Frame) (S k : ℕ) where
       t.judged
   puts false b piece x a t = λ e _. not_filling a.phase t.phase_is e
 
-  ends : (b : Progress) (x : OpenAnswer) (a : Progress) → Ends u S k b x a → Right a
+  ends : (b : Progress) (x : Told) (a : Progress) → Ends u S k b x a → Right a
   ends b x a t =
       ⊎_elim
       (λ good e _. not_over a.phase good.phase_is e)
       (λ bad _ s. bad.no_message (subst (Sealed u S k) t.taken_is s))
       t.judged
 
-  put_turn : (p : Phase) (b : Progress) (piece : List ℕ) (room : ℕ) (x : OpenAnswer) (a : Progress) → Right b → PutTurn u S k p b piece room x a → Right a
+  put_turn : (p : Phase) (b : Progress) (piece : List ℕ) (room : ℕ) (x : Told) (a : Progress) → Right b → PutTurn u S k p b piece room x a → Right a
   put_turn over b piece room x a ok t = subst Right (sym t.1) ok
   put_turn spoiled b piece room x a ok t = subst Right (sym t.1) ok
   put_turn filling b piece room x a ok t =
@@ -54,16 +53,16 @@ module _ (u : Frame) (S k : ℕ) where
       let j : ℕ = among u S k n in
       unless (put_refusal_at (t_of u) (in_all u S k) S j n (length piece) room) b a x _ ok (puts (completes_at (t_of u) (in_all u S k) S j n (length piece)) b piece x a) t
 
-  finish_turn : (p : Phase) (b : Progress) (room : ℕ) (x : OpenAnswer) (a : Progress) → Right b → FinishTurn u S k p b room x a → Right a
+  finish_turn : (p : Phase) (b : Progress) (room : ℕ) (x : Told) (a : Progress) → Right b → FinishTurn u S k p b room x a → Right a
   finish_turn over b room x a ok t = subst Right (sym t.1) ok
   finish_turn spoiled b room x a ok t = subst Right (sym t.1) ok
   finish_turn filling b room x a ok t = unless _ b a x _ ok (ends b x a) t
 
-  turn : (b : Progress) (c : OpenCall) (room : ℕ) (x : OpenAnswer) (a : Progress) → Right b → Turn u S k b c room x a → Right a
+  turn : (b : Progress) (c : Call) (room : ℕ) (x : Told) (a : Progress) → Right b → Turn u S k b c room x a → Right a
   turn b (Put piece _) room x a ok t = put_turn b.phase b piece.now room x a ok t
   turn b (Finish _) room x a ok t = finish_turn b.phase b room x a ok t
 
-  pub run_right : (b : Progress) (room : ℕ) (cs : List OpenCall) (xs : List OpenAnswer) (end : Progress) → Right b → OpenRun u S k b room cs xs end → Right end
+  pub run_right : (b : Progress) (room : ℕ) (cs : List Call) (xs : List Told) (end : Progress) → Right b → OpenRun u S k b room cs xs end → Right end
   run_right b room [] xs end ok t = subst Right (sym t) ok
   run_right b room (c ∷ cs) [] end ok t = absurd t
   run_right b room (c ∷ cs) (x ∷ xs) end ok (a, t, rest) = run_right a room cs xs end (turn b c _ x a ok t) rest

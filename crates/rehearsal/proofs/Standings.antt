@@ -1,5 +1,5 @@
 -- The numbers of an opener, by the bytes that it has taken.
-use Rattle.std.proofs.Common.{◌≡◌, ℕ, pred, ◌+◌, ◌*◌, ◌/◌, ◌<◌, ◌≤◌, List, [], ◌++◌, length, drop, sym, ap, ◌∙◌, subst, ⊎_elim, mul-div_cancel, mul_left_comm, arith, take-append-drop}
+use Rattle.std.proofs.Common.{◌≡◌, ℕ, pred, ◌+◌, ◌*◌, ◌/◌, ◌<◌, ◌≤◌, List, [], ◌++◌, length, drop, sym, ap, ◌∙◌, subst, ⊎_elim, mul-div_cancel, mul_left_comm, arith, rules, take-append-drop}
 use Rattle.std.proofs.lemmas.Nat.{div-mul-add}
 use Rattle.std.proofs.lemmas.Bool.{cases_lt}
 use Rattle.elmd.specs.Refusals.{mark_number}
@@ -28,6 +28,9 @@ module _ (u : Frame) (S k : ℕ) (s : List ℕ) (o : Opener) (ok : Opening u s o
   pub h_eq : o.shape.checks ≡ in_all u S k
   h_eq = laid.h_is ∙ ap (checks u) laid.l_is
 
+  counts : (j ≤ o.shape.checks) × (o.taken ≡ 16 * (j * (o.settings.interval + 1)) + o.fill)
+  counts = let all = o.stands in search rules
+
   -- the checks that were judged are those among the bytes
   pub j_eq : j ≡ among u S k (length s)
   j_eq =
@@ -36,7 +39,7 @@ module _ (u : Frame) (S k : ℕ) (s : List ℕ) (o : Opener) (ok : Opening u s o
       let e = spot u s [] o ok in
       let f : 16 * (j * (o.settings.interval + 1)) ≡ 16 * (j * (t_of u + 1)) = ap (λ (x : ℕ). 16 * (j * (x + 1))) t_eq in
       let c : j * D ≡ 16 * (j * (t_of u + 1)) = mul_left_comm j 16 (t_of u + 1) in
-      let st = o.stands.2 in
+      let st = counts.1 in
       let h = h_eq in
       let all : length s ≡ j * D + o.fill = omega arith in
       ⊎_elim
@@ -46,7 +49,7 @@ module _ (u : Frame) (S k : ℕ) (s : List ℕ) (o : Opener) (ok : Opening u s o
       let q : length s / D ≡ j = ap (λ (x : ℕ). x / D) all ∙ div-mul-add j D o.fill (omega arith) in
       omega arith)
       (λ le.
-      let st1 = o.stands.1 in
+      let st1 = counts.0 in
       let pos : 0 < D = omega arith in
       let g : j * D / D ≡ j = mul-div_cancel j pos in
       let m : j * D / D ≤ length s / D = quo_mono (j * D) (length s) D (omega arith) in
@@ -57,7 +60,7 @@ module _ (u : Frame) (S k : ℕ) (s : List ℕ) (o : Opener) (ok : Opening u s o
   pub keeps_filling : Sound u → (m : List ℕ) → MessageOf u S k m → Begins s (stream u m) → Begins (released u s (j * t_of u)) m
   keeps_filling sound m hm b =
       let i : ℕ = j * t_of u in
-      let le : j ≤ pred (blocks_of u S) / t_of u = (let p = o.stands.1 in let h = h_eq in omega arith) in
+      let le : j ≤ pred (blocks_of u S) / t_of u = (let p = counts.0 in let h = h_eq in omega arith) in
       let fits : i ≤ pred (blocks_of u S) = quo_fits j (t_of u) (pred (blocks_of u S)) le in
       let l = same_l u S k m hm in
       let some = hm.some in

@@ -1,15 +1,14 @@
 -- A heading in pieces.
-use Rattle.std.specs.Prelude.{ℕ, List, [], ◌∷◌, ◌++◌, length, Result}
+use Rattle.std.specs.Prelude.{ℕ, List}
 use Rattle.std.specs.Borrow.{Bor}
-use Rattle.elmd.specs.declared.refusal.Refusal.{Refusal}
-use Rattle.elmd.specs.Refusals.{next}
-use Rattle.elmd.specs.Settings.{settings_answer}
-use Rattle.elmd.specs.Heading.{add_answer}
+use Rattle.std.specs.List.{flat_map}
+use Rattle.cipher.specs.Meaning.{Meaning}
+use Rattle.elmd.specs.Heading.{frame_of}
+use Rattle.elmd.specs.Stream.{Frame}
+use Rattle.rehearsal.specs.declared.joined.Heading.{Heading}
 
 abbrev pub joined_bytes : List (Bor (List ℕ)) → List ℕ
-joined_bytes [] = []
-joined_bytes (p ∷ ps) = p.now ++ joined_bytes ps
+joined_bytes ps = flat_map (λ (p : Bor (List ℕ)). p.now) ps
 
--- the first cause of the settings, then of the heading's length
-abbrev pub heading_answer : ℕ → (settings heading : List ℕ) → Result Unit Refusal
-heading_answer label settings heading = next (settings_answer label settings) (add_answer 0 (length heading))
+abbrev pub frame_under : Meaning → Heading → Frame
+frame_under m h = frame_of m h.settings h.nonce (joined_bytes h.pieces.now)

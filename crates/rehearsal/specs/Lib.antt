@@ -1,3 +1,4 @@
+pub mod Calls
 pub mod SealLaw
 pub mod OpenLaw
 pub mod Joined

@@ -14,14 +14,15 @@ use Rattle.opening.specs.declared.place.Opener.{Opener}
 use Rattle.opening.specs.declared.place.Phase.TheVariants as ph
 use Rattle.opening.specs.Opener.{Opening}
 use Rattle.opening.specs.Standing.{end_of}
-use Rattle.rehearsal.specs.declared.open_calls.OpenCall.{OpenCall}
-use Rattle.rehearsal.specs.declared.open_calls.OpenCall.TheVariants.{Put, Finish}
-use Rattle.rehearsal.specs.declared.open_calls.OpenAnswer.{OpenAnswer}
-use Rattle.rehearsal.specs.declared.open_calls.OpenAnswer.TheVariants.{Took, Opened, Refused}
+use Rattle.rehearsal.specs.declared.calls.Call.{Call}
+use Rattle.rehearsal.specs.declared.calls.Call.TheVariants.{Put, Finish}
+use Rattle.rehearsal.specs.declared.calls.Taken.{Taken}
+use Rattle.rehearsal.specs.declared.calls.Taken.TheVariants.{Took, Opened}
+use Rattle.rehearsal.specs.Calls.{room_of, made}
 
-abbrev pub room_of : OpenCall → ℕ
-room_of (Put piece room) = room
-room_of (Finish room) = room
+-- an opener's answer to a call
+abbrev pub Told : Type 0
+Told = Result Taken Refusal
 
 -- THE RULES
 
@@ -53,8 +54,8 @@ abbrev pub finish_refusal_at : (t h l S taken room : ℕ) → Option Refusal
 finish_refusal_at t h l S taken room = cond (nat_lt taken S) (Some why.StreamMissing) (cond (nat_lt room (16 * (l - h * t))) (Some why.RoomShort) None)
 
 -- a refusal changes nothing
-abbrev pub Unless : Option Refusal → Progress → OpenAnswer → Progress → Type 0 → Type 0
-Unless (Some e) b x a next = (x ≡ Refused e) × (a ≡ b)
+abbrev pub Unless : Option Refusal → Progress → Told → Progress → Type 0 → Type 0
+Unless (Some e) b x a next = (x ≡ Err e) × (a ≡ b)
 Unless None b x a next = next
 
 -- the messages are those whose streams have S bytes and mark k
@@ -74,72 +75,72 @@ module _ (u : Frame) (S k : ℕ) where
   more b piece = b.taken ++ take (takes b piece) piece
 
   -- a check is good: the bytes taken in begin the stream of a message
-  pub record GoodCheck (b : Progress) (piece : List ℕ) (x : OpenAnswer) (a : Progress) : Type 0 where
+  pub record GoodCheck (b : Progress) (piece : List ℕ) (x : Told) (a : Progress) : Type 0 where
     pub extends : Extends u S k (more b piece)
-    pub answer : x ≡ Took (takes b piece) (16 * t_of u)
+    pub answer : x ≡ Ok (Took (takes b piece) (16 * t_of u))
     pub phase_is : a.phase ≡ filling
     pub blocks : (w : List ℕ) × (length w ≡ 16 * t_of u) × (a.let_out ≡ b.let_out ++ w)
     pub genuine : (m : List ℕ) → MessageOf u S k m → Begins (more b piece) (stream u m) → Begins a.let_out m
 
-  pub record BadCheck (b : Progress) (piece : List ℕ) (x : OpenAnswer) (a : Progress) : Type 0 where
+  pub record BadCheck (b : Progress) (piece : List ℕ) (x : Told) (a : Progress) : Type 0 where
     pub no_message : Extends u S k (more b piece) → ⊥
-    pub answer : x ≡ Refused (why.BadCheck (among (length b.taken) + 1))
+    pub answer : x ≡ Err (why.BadCheck (among (length b.taken) + 1))
     pub phase_is : a.phase ≡ spoiled
     pub none : a.let_out ≡ b.let_out
 
-  pub record Checked (b : Progress) (piece : List ℕ) (x : OpenAnswer) (a : Progress) : Type 0 where
+  pub record Checked (b : Progress) (piece : List ℕ) (x : Told) (a : Progress) : Type 0 where
     pub taken_is : a.taken ≡ more b piece
     pub judged : GoodCheck b piece x a ⊎ BadCheck b piece x a
 
   -- no check is completed
-  pub record Plain (b : Progress) (piece : List ℕ) (x : OpenAnswer) (a : Progress) : Type 0 where
+  pub record Plain (b : Progress) (piece : List ℕ) (x : Told) (a : Progress) : Type 0 where
     pub taken_is : a.taken ≡ more b piece
-    pub answer : x ≡ Took (takes b piece) 0
+    pub answer : x ≡ Ok (Took (takes b piece) 0)
     pub phase_is : a.phase ≡ filling
     pub none : a.let_out ≡ b.let_out
 
   -- the end is right: the bytes taken in are the whole stream of a message, and then all of it is let out
-  pub record GoodEnd (b : Progress) (x : OpenAnswer) (a : Progress) : Type 0 where
+  pub record GoodEnd (b : Progress) (x : Told) (a : Progress) : Type 0 where
     pub message : List ℕ
     pub of : MessageOf u S k message
     pub whole : stream u message ≡ b.taken
-    pub answer : x ≡ Opened (length message - length b.let_out)
+    pub answer : x ≡ Ok (Opened (length message - length b.let_out))
     pub phase_is : a.phase ≡ over
     pub all : a.let_out ≡ message
 
-  pub record BadEnd (b : Progress) (x : OpenAnswer) (a : Progress) : Type 0 where
+  pub record BadEnd (b : Progress) (x : Told) (a : Progress) : Type 0 where
     pub no_message : Sealed u S k b.taken → ⊥
-    pub answer : x ≡ Refused why.BadTag
+    pub answer : x ≡ Err why.BadTag
     pub phase_is : a.phase ≡ spoiled
     pub none : a.let_out ≡ b.let_out
 
-  pub record Ends (b : Progress) (x : OpenAnswer) (a : Progress) : Type 0 where
+  pub record Ends (b : Progress) (x : Told) (a : Progress) : Type 0 where
     pub taken_is : a.taken ≡ b.taken
     pub judged : GoodEnd b x a ⊎ BadEnd b x a
 
-  abbrev pub Puts : Bool → Progress → List ℕ → OpenAnswer → Progress → Type 0
+  abbrev pub Puts : Bool → Progress → List ℕ → Told → Progress → Type 0
   Puts true b piece x a = Checked b piece x a
   Puts false b piece x a = Plain b piece x a
 
-  abbrev pub PutTurn : Phase → Progress → (piece : List ℕ) (room : ℕ) → OpenAnswer → Progress → Type 0
-  PutTurn over b piece room x a = (x ≡ Refused why.Over) × (a ≡ b)
-  PutTurn spoiled b piece room x a = (x ≡ Refused why.Spoiled) × (a ≡ b)
+  abbrev pub PutTurn : Phase → Progress → (piece : List ℕ) (room : ℕ) → Told → Progress → Type 0
+  PutTurn over b piece room x a = (x ≡ Err why.Over) × (a ≡ b)
+  PutTurn spoiled b piece room x a = (x ≡ Err why.Spoiled) × (a ≡ b)
   PutTurn filling b piece room x a =
       Unless (put_refusal_at (t_of u) in_all S (among (length b.taken)) (length b.taken) (length piece) room) b x a
       (Puts (completes_at (t_of u) in_all S (among (length b.taken)) (length b.taken) (length piece)) b piece x a)
 
-  abbrev pub FinishTurn : Phase → Progress → (room : ℕ) → OpenAnswer → Progress → Type 0
-  FinishTurn over b room x a = (x ≡ Refused why.Over) × (a ≡ b)
-  FinishTurn spoiled b room x a = (x ≡ Refused why.Spoiled) × (a ≡ b)
+  abbrev pub FinishTurn : Phase → Progress → (room : ℕ) → Told → Progress → Type 0
+  FinishTurn over b room x a = (x ≡ Err why.Over) × (a ≡ b)
+  FinishTurn spoiled b room x a = (x ≡ Err why.Spoiled) × (a ≡ b)
   FinishTurn filling b room x a = Unless (finish_refusal_at (t_of u) in_all (blocks_of u S) S (length b.taken) room) b x a (Ends b x a)
 
   -- one call, with so much room
-  abbrev pub Turn : Progress → OpenCall → (room : ℕ) → OpenAnswer → Progress → Type 0
+  abbrev pub Turn : Progress → Call → (room : ℕ) → Told → Progress → Type 0
   Turn b (Put piece _) room x a = PutTurn b.phase b piece.now room x a
   Turn b (Finish _) room x a = FinishTurn b.phase b room x a
 
   -- a list of calls and their answers, call by call; each gets its room, or what is left where that is less
-  abbrev pub OpenRun : Progress → (room : ℕ) → List OpenCall → List OpenAnswer → Progress → Type 0
+  abbrev pub OpenRun : Progress → (room : ℕ) → List Call → List Told → Progress → Type 0
   OpenRun b room [] xs end = end ≡ b
   OpenRun b room (c ∷ cs) [] end = ⊥
   OpenRun b room (c ∷ cs) (x ∷ xs) end =
@@ -154,7 +155,7 @@ module _ (u : Frame) (S k : ℕ) where
 
 -- THE LAW
 
-pub record OpenerLaw (u : Frame) (S k : ℕ) (calls : List OpenCall) (answers : List OpenAnswer) (out out' : List ℕ) (w : ℕ) : Type 0 where
+pub record OpenerLaw (u : Frame) (S k : ℕ) (calls : List Call) (answers : List Told) (out out' : List ℕ) (w : ℕ) : Type 0 where
   pub end : Progress
   pub answered : OpenRun u S k start (length out) calls answers end
   pub let_out_is : end.let_out ≡ take w out'
@@ -164,18 +165,6 @@ pub record OpenerLaw (u : Frame) (S k : ℕ) (calls : List OpenCall) (answers : 
   pub one : (m n : List ℕ) → MessageOf u S k m → MessageOf u S k n → stream u m ≡ stream u n → m ≡ n
 
 -- THE PARTS
-
--- of an output the first n bytes are written
-pub record Within (n : ℕ) (out out' : List ℕ) : Type 0 where
-  pub fits : n ≤ length out
-  pub rest : drop n out' ≡ drop n out
-
--- the bytes from pos to
-pub record Wrote (pos to : ℕ) (out out' : List ℕ) : Type 0 where
-  pub after : pos ≤ to
-  pub fits : to ≤ length out
-  pub before : take pos out' ≡ take pos out
-  pub rest : drop to out' ≡ drop to out
 
 -- an opener that stands so
 abbrev pub Stands : (u : Frame) (S k : ℕ) → Phase → Progress → Opener → Type 0
@@ -187,52 +176,34 @@ pub record At (u : Frame) (S k : ℕ) (b : Progress) (o : Opener) : Type 0 where
   pub stands : Stands u S k b.phase b o
   pub keeps : Released u S k b
 
-abbrev pub Leads : Meaning → Opener → (Frame → ℕ → ℕ → Progress → Progress → Type 0) → (n : ℕ) → Opener → (out' : List ℕ) → Type 0
-Leads c o turn n o' out' =
+abbrev pub Leads : Meaning → Opener → (Frame → ℕ → ℕ → Progress → Progress → Type 0) → Opener → (written : List ℕ) → Type 0
+Leads c o turn o' written =
     (u : Frame) (S k : ℕ) (b : Progress) → u.cipher ≡ c → Sound u → At u S k b o
-    → (a : Progress) × turn u S k b a × At u S k a o' × (a.let_out ≡ b.let_out ++ take n out')
+    → (a : Progress) × turn u S k b a × At u S k a o' × (a.let_out ≡ b.let_out ++ written)
 
-abbrev pub PutDoes : Meaning → Opener → (piece out : List ℕ) → (n : ℕ) → OpenAnswer → Opener → (out' : List ℕ) → Type 0
-PutDoes c o piece out n x o' out' = Leads c o (λ u S k b a. PutTurn u S k b.phase b piece (length out) x a) n o' out'
+abbrev pub PutDoes : Meaning → Opener → (piece : List ℕ) (room : ℕ) → Opener → (written : List ℕ) → Told → Type 0
+PutDoes c o piece room o' written x = Leads c o (λ u S k b a. PutTurn u S k b.phase b piece room x a) o' written
 
-abbrev pub FinishDoes : Meaning → Opener → (out : List ℕ) → (n : ℕ) → OpenAnswer → Opener → (out' : List ℕ) → Type 0
-FinishDoes c o out n x o' out' = Leads c o (λ u S k b a. FinishTurn u S k b.phase b (length out) x a) n o' out'
+abbrev pub FinishDoes : Meaning → Opener → (room : ℕ) → Opener → (written : List ℕ) → Told → Type 0
+FinishDoes c o room o' written x = Leads c o (λ u S k b a. FinishTurn u S k b.phase b room x a) o' written
 
-abbrev pub Does : Meaning → Opener → OpenCall → (out : List ℕ) → (n : ℕ) → OpenAnswer → Opener → (out' : List ℕ) → Type 0
-Does c o call out n x o' out' = Leads c o (λ u S k b a. Turn u S k b call (length out) x a) n o' out'
-
-abbrev pub Turns : Meaning → Opener → OpenCall → (pos : ℕ) (out : List ℕ) → (to : ℕ) → OpenAnswer → Opener → (out' : List ℕ) → Type 0
-Turns c o call pos out to x o' out' =
-    (u : Frame) (S k : ℕ) (b : Progress) → u.cipher ≡ c → Sound u → At u S k b o → b.let_out ≡ take pos out
-    → (a : Progress) × Turn u S k b call (min (room_of call) (length out - pos)) x a × At u S k a o' × (a.let_out ≡ take to out')
-
-abbrev pub Reaches : (u : Frame) (S k : ℕ) → List OpenCall → List OpenAnswer → (room : ℕ) → Opener → (let_out : List ℕ) → Type 0
-Reaches u S k calls answers room o' w = (end : Progress) × OpenRun u S k start room calls answers end × At u S k end o' × (end.let_out ≡ w)
-
--- the first n calls and answers
-abbrev pub Runs : Meaning → Opener → List OpenCall → (out : List ℕ) → (n w : ℕ) → List OpenAnswer → (out' : List ℕ) → Type 0
-Runs c o calls out n w answers' out' =
-    (u : Frame) (S k : ℕ) → u.cipher ≡ c → Sound u → At u S k start o
-    → (end : Progress) × OpenRun u S k start (length out) (take n calls) (take n answers') end × Released u S k end × (end.let_out ≡ take w out')
+abbrev pub OpenerDoes : Meaning → Opener → Call → (room : ℕ) → Opener → (written : List ℕ) → Told → Type 0
+OpenerDoes c o call room o' written x = Leads c o (λ u S k b a. Turn u S k b call room x a) o' written
 
 -- no start without checks, nor where no message has that length and mark; then nothing is written
-abbrev pub RefusedWhen : ClosedHeading → (S k : ℕ) (out : List ℕ) → List OpenAnswer → Result ℕ Refusal → (out' : List ℕ) → List OpenAnswer → Type 0
+abbrev pub RefusedWhen : ClosedHeading → (S k : ℕ) (out : List ℕ) → List Told → Result ℕ Refusal → (out' : List ℕ) → List Told → Type 0
 RefusedWhen h S k out answers (Ok w) out' answers' = (1 ≤ h.settings.interval) × ((u : Frame) → settings_bytes h.settings ≡ u.settings → (m : List ℕ) × MessageOf u S k m)
 RefusedWhen h S k out answers (Err e) out' answers' =
     (((h.settings.interval ≡ 0) × (e ≡ why.NoChecks))
     ⊎ ((1 ≤ h.settings.interval) × (e ≡ why.StreamLength) × ((u : Frame) → settings_bytes h.settings ≡ u.settings → (m : List ℕ) → MessageOf u S k m → ⊥)))
     × (out' ≡ out) × (answers' ≡ answers)
 
--- how many calls are made: as many as there are places for answers
-abbrev pub made : List OpenCall → List OpenAnswer → ℕ
-made calls answers = min (length calls) (length answers)
-
-abbrev pub LawAt : Meaning → ClosedHeading → (S k : ℕ) → List OpenCall → (out : List ℕ) → List OpenAnswer → Result ℕ Refusal → (out' : List ℕ) → List OpenAnswer → Type 0
+abbrev pub LawAt : Meaning → ClosedHeading → (S k : ℕ) → List Call → (out : List ℕ) → List Told → Result ℕ Refusal → (out' : List ℕ) → List Told → Type 0
 LawAt c h S k calls out answers (Ok w) out' answers' =
     (u : Frame) → u.cipher ≡ c → Closes u h → OpenerLaw u S k (take (made calls answers) calls) (take (made calls answers) answers') out out' w
 LawAt c h S k calls out answers (Err e) out' answers' = Unit {0}
 
 -- what stands behind the bytes let out and behind the answers is as it was
-abbrev pub Untouched : List OpenCall → (out : List ℕ) → List OpenAnswer → Result ℕ Refusal → (out' : List ℕ) → List OpenAnswer → Type 0
+abbrev pub Untouched : List Call → (out : List ℕ) → List Told → Result ℕ Refusal → (out' : List ℕ) → List Told → Type 0
 Untouched calls out answers (Ok w) out' answers' = (w ≤ length out) × (drop w out' ≡ drop w out) × (drop (made calls answers) answers' ≡ drop (made calls answers) answers)
 Untouched calls out answers (Err e) out' answers' = Unit {0}

@@ -3,105 +3,72 @@
 
 ghost use Rattle.std.specs.Prelude.{◌≡◌};
 ghost use Rattle.elmd.specs.Refusals.{mark_number};
-ghost use Rattle.elmd.specs.Heading.{frame_of};
-ghost use Rattle.rehearsal.specs.Joined.{joined_bytes};
+ghost use Rattle.rehearsal.specs.Calls.{Kept};
+ghost use Rattle.rehearsal.specs.Joined.{frame_under};
 ghost use Rattle.rehearsal.specs.Law.{SealerSide, OpenerSide};
 
 use cipher::Cipher;
 use elmd::refusal::{Mark, Refusal};
 
+mod calls;
+mod drive;
 mod joined;
-mod open_calls;
 mod open_side;
-mod seal_calls;
 mod seal_side;
 
-use joined::closed_heading;
-pub use open_calls::{OpenAnswer, OpenCall};
+pub use calls::{Call, Given, NotGiven, OpenAnswer, Part, SealAnswer, Taken};
+pub use joined::Heading;
 use open_side::drive_opener;
-pub use seal_calls::{SealAnswer, SealCall};
 use seal_side::drive_sealer;
 
-// Makes the sealer's calls into `sealed` and the opener's into `opened`, under one heading in pieces; answers how many bytes
-// each wrote, or the refusal of its heading or its beginning.
+// Makes the sealer's calls and the opener's, under one heading; answers how many bytes each wrote, or the refusal of its
+// heading or its beginning. Length and mark go together to `Opener::begin` alone: a struct of the two would be built for that one
+// call.
 pub fn rehearse<C: Cipher>(
     c: &mut C,
-    settings: &[u8; 8],
-    nonce: &[u8; 8],
-    pieces: &[&[u8]],
+    heading: &Heading,
     n: usize,
-    seal_calls: &[SealCall],
-    sealed: &mut [u8],
-    seal_answers: &mut [SealAnswer],
+    sealed: &mut Part<SealAnswer>,
     stream_length: usize,
     mark: Mark,
-    open_calls: &[OpenCall],
-    opened: &mut [u8],
-    open_answers: &mut [OpenAnswer],
+    opened: &mut Part<OpenAnswer>,
 ) -> (Result<usize, Refusal>, Result<usize, Refusal>)
-    ensures sealer { SealerSide (frame_of (C.Cipher.meaning c.old) settings.now nonce.now (joined_bytes pieces.now)) n seal_calls.now seal_answers.old seal_answers.new sealed.old sealed.new result.0 }
-    ensures opener { OpenerSide (frame_of (C.Cipher.meaning c.old) settings.now nonce.now (joined_bytes pieces.now)) stream_length (mark_number mark) open_calls.now open_answers.old open_answers.new opened.old opened.new result.1 }
+    ensures sealer { SealerSide (frame_under (C.Cipher.meaning c.old) heading.now) n sealed.old.calls.now sealed.old.answers.now sealed.new.answers.now sealed.old.out.now sealed.new.out.now result.0 }
+    ensures opener { OpenerSide (frame_under (C.Cipher.meaning c.old) heading.now) stream_length (mark_number mark) opened.old.calls.now opened.old.answers.now opened.new.answers.now opened.old.out.now opened.new.out.now result.1 }
+    ensures kept { Kept sealed.old sealed.new × Kept opened.old opened.new }
     ensures same { C.Cipher.meaning c.new ≡ C.Cipher.meaning c.old }
 {
-    let first = sealer_side(
-        c,
-        settings,
-        nonce,
-        pieces,
-        n,
-        seal_calls,
-        sealed,
-        seal_answers,
-    );
-    let second = opener_side(
-        c,
-        settings,
-        nonce,
-        pieces,
-        stream_length,
-        mark,
-        open_calls,
-        opened,
-        open_answers,
-    );
+    let first = sealer_side(c, heading, n, sealed);
+    let second = opener_side(c, heading, stream_length, mark, opened);
     (first, second)
 }
 
+// Each side begins its own state and has its own law: one generic function would take both as parameters.
 fn sealer_side<C: Cipher>(
     c: &mut C,
-    settings: &[u8; 8],
-    nonce: &[u8; 8],
-    pieces: &[&[u8]],
+    heading: &Heading,
     n: usize,
-    calls: &[SealCall],
-    out: &mut [u8],
-    answers: &mut [SealAnswer],
+    part: &mut Part<SealAnswer>,
 ) -> Result<usize, Refusal>
-    ensures side { SealerSide (frame_of (C.Cipher.meaning c.old) settings.now nonce.now (joined_bytes pieces.now)) n calls.now answers.old answers.new out.old out.new result }
+    ensures side { SealerSide (frame_under (C.Cipher.meaning c.old) heading.now) n part.old.calls.now part.old.answers.now part.new.answers.now part.old.out.now part.new.out.now result }
+    ensures kept { Kept part.old part.new }
     ensures same { C.Cipher.meaning c.new ≡ C.Cipher.meaning c.old }
 {
-    match closed_heading(c, settings, nonce, pieces) {
-        Ok(h) => drive_sealer(c, h, n, calls, out, answers),
-        Err(why) => Err(why),
-    }
+    let closed = heading.close(c)?;
+    drive_sealer(c, closed, n, part)
 }
 
 fn opener_side<C: Cipher>(
     c: &mut C,
-    settings: &[u8; 8],
-    nonce: &[u8; 8],
-    pieces: &[&[u8]],
+    heading: &Heading,
     stream_length: usize,
     mark: Mark,
-    calls: &[OpenCall],
-    out: &mut [u8],
-    answers: &mut [OpenAnswer],
+    part: &mut Part<OpenAnswer>,
 ) -> Result<usize, Refusal>
-    ensures side { OpenerSide (frame_of (C.Cipher.meaning c.old) settings.now nonce.now (joined_bytes pieces.now)) stream_length (mark_number mark) calls.now answers.old answers.new out.old out.new result }
+    ensures side { OpenerSide (frame_under (C.Cipher.meaning c.old) heading.now) stream_length (mark_number mark) part.old.calls.now part.old.answers.now part.new.answers.now part.old.out.now part.new.out.now result }
+    ensures kept { Kept part.old part.new }
     ensures same { C.Cipher.meaning c.new ≡ C.Cipher.meaning c.old }
 {
-    match closed_heading(c, settings, nonce, pieces) {
-        Ok(h) => drive_opener(c, h, stream_length, mark, calls, out, answers),
-        Err(why) => Err(why),
-    }
+    let closed = heading.close(c)?;
+    drive_opener(c, closed, stream_length, mark, part)
 }

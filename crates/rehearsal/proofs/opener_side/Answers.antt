@@ -1,17 +1,10 @@
-use Rattle.std.proofs.Common.{sym, ◌∙◌}
+use Rattle.std.proofs.Common.{sym}
 use Rattle.elmd.specs.Refusals.{mark_number}
-use Rattle.elmd.specs.Heading.{frame_of}
-use Rattle.rehearsal.specs.Joined.{joined_bytes}
 use Rattle.rehearsal.proofs.Sides.{open_side}
 use Rattle.rehearsal.proofs.opener_side.Goals as goal
 
-pub returns-in-Ok : goal.returns-in-Ok
-returns-in-Ok g c =
-    let m = g.C.Cipher.meaning in
-    let made = c.in-Ok.ensures in
+pub returns-clause-side : goal.returns-clause-side
+returns-clause-side g c =
+    let made = c.in_ok-closed.ensures in
     let driven = c.drive_opener.ensures in
-    let kept = c.closed_heading.ensures.same in
-    record {
-      side = open_side (frame_of (m c.args.c.now) c.args.settings.now c.args.nonce.now (joined_bytes c.args.pieces.now)) c.in-Ok.h (m c.closed_heading.new.c) c.args.stream_length (mark_number c.args.mark) c.args.calls.now c.args.answers.now c.drive_opener.new.answers c.args.out.now c.drive_opener.new.out c.drive_opener.result made.answer (sym kept) made.closes driven.refused driven.law driven.rest;
-      same = driven.same ∙ kept;
-    }
+    open_side _ c.in_ok-closed.closed (g.C.Cipher.meaning c.close.new.c) c.args.stream_length (mark_number c.args.mark) _ _ _ _ _ _ made.answer (sym c.close.ensures.same) made.closes driven.refused driven.law driven.rest

@@ -3,9 +3,12 @@ use Rattle.elmd.specs.Heading.{Grows}
 use Rattle.rehearsal.specs.Joined.{joined_bytes}
 use Rattle.rehearsal.proofs.joined.add_all.Given as goal
 
-abbrev pub invariant-loop-i : goal.invariant-loop-i
-invariant-loop-i g l =
+abbrev pub invariant-loop-piece : goal.invariant-loop-piece
+invariant-loop-piece g l =
     let m = g.C.Cipher.meaning in
-    (m l.c ≡ m l.initial.c)
-    × (l.h.len ≡ l.initial.h.len + length (joined_bytes (take l.i l.pieces)))
-    × Grows (m l.initial.c) l.initial.h (joined_bytes (take l.i l.pieces)) l.h
+    let bytes = joined_bytes (take l.piece-index l.pieces) in
+    record {
+      same : m l.c ≡ m l.initial.c;
+      counted : l.h.len ≡ l.initial.h.len + length bytes;
+      grows : Grows (m l.initial.c) l.initial.h bytes l.h;
+    }
