@@ -1,12 +1,11 @@
 -- One more part of a file behind what was copied of it.
-use Rattle.std.proofs.Common.{◌≡◌, ℕ, ◌+◌, ◌≤◌, List, ◌++◌, length, take, drop, Some, None, sym, refl, ap, ◌∙◌, subst, ⊎_elim, arith, take-add}
+use Rattle.std.proofs.Common.{◌≡◌, ℕ, ◌+◌, ◌≤◌, List, ◌++◌, length, take, drop, Some, sym, refl, ap, ◌∙◌, subst, arith, take-add}
 use borrow.Rule.Slice.PartMut.{put_mid}
-use Rattle.std.proofs.lemmas.List.{drop-drop, take_all, take-append-drop}
-use Rattle.std.proofs.lemmas.Bool.{cases_lt}
+use Rattle.std.proofs.lemmas.List.{drop-drop}
 use Rattle.std.proofs.lemmas.Slice.{take-put_mid, drop-put_mid}
 use Rattle.fileparts.specs.declared.part.Part.{Part}
 use Rattle.fileparts.specs.declared.reader.Reader.{Reader}
-use Rattle.fileparts.specs.Parts.{Layout, Piece, parts, piece_at, bytes_of, layout_of, Gives}
+use Rattle.fileparts.specs.Parts.{Layout, Piece, parts, piece_at, bytes_of, place_of, layout_of, Gives}
 use Rattle.fileparts.specs.Reads.{Starts}
 use Rattle.fileparts.proofs.Pieces.{whole, Stand, step}
 use Rattle.fileparts.proofs.Walks.{taken_as, size_is, at_start}
@@ -36,19 +35,21 @@ begins r start = record {
 }
 
 -- a part that came, and where the walk stands then
-pub record Came (file : List ℕ) (y : Layout) (at : ℕ) (b : List ℕ) (r : Reader) : Type 0 where
+pub record Came (file : List ℕ) (y : Layout) (at place : ℕ) (b : List ℕ) (r : Reader) : Type 0 where
+  pub place_is : place ≡ at
   pub bytes_are : b ≡ take (length b) (drop at file)
   pub walks : Walking file y r (at + length b)
 
-pub comes : (file : List ℕ) (y : Layout) (at : ℕ) (s t : Reader) (p : Part) (b : List ℕ) → b ≡ bytes_of p → Walking file y s at → Gives s (Some p) t → Came file y at b t
-comes file y at s t p bytes eb w g =
+pub comes : (file : List ℕ) (y : Layout) (at : ℕ) (s t : Reader) (p : Part) (place : ℕ) (b : List ℕ) → place ≡ place_of p → b ≡ bytes_of p → Walking file y s at → Gives s (Some p) t → Came file y at place b t
+comes file y at s t p place bytes ep eb w g =
     let k = taken_as file y s.given s t (Some p) w.file_is w.layout_is refl g in
     let b = w.stands.begins k.0 in
     let st = step y (length file) s.given at w.size k.0 b in
     let sz : length (bytes_of p) ≡ (piece_at y s.given).size = ap (λ (q : Piece). q.size) k.2.piece_is in
     let c : t.given ≡ s.given + 1 = g.counted in
     let f = st.fits in
-    subst (λ (x : List ℕ). Came file y at x t) (sym eb) (record {
+    subst (λ (x : List ℕ). Came file y at place x t) (sym eb) (record {
+      place_is = ep ∙ ap (λ (q : Piece). q.place) k.2.piece_is ∙ b;
       bytes_are = k.2.bytes_are ∙ ap (λ (x : ℕ). take (piece_at y s.given).size (drop x file)) b ∙ ap (λ (x : ℕ). take x (drop at file)) (sym sz);
       walks = record {
         size = w.size;
@@ -59,18 +60,6 @@ comes file y at s t p bytes eb w g =
         within = omega arith;
       };
     })
-
--- where no part came, the file is at its end
-pub over : (file : List ℕ) (y : Layout) (at : ℕ) (s t : Reader) → Walking file y s at → Gives s None t → at ≡ length file
-over file y at s t w g =
-    let no = taken_as file y s.given s t None w.file_is w.layout_is refl g in
-    let all : parts y ≤ s.given =
-    ⊎_elim (λ lt. let b = w.stands.begins lt in let z = (step y (length file) s.given at w.size lt b).fits in absurd (no lt (omega arith))) (λ x. x) (cases_lt s.given (parts y)) in
-    sym (w.stands.ended all)
-
-pub copied_all : (file out₀ out : List ℕ) (at : ℕ) → at ≡ length file → Copied file out₀ at out → out ≡ file ++ drop (length file) out₀
-copied_all file out₀ out at e c =
-    sym (take-append-drop at out) ∙ ap (λ (x : List ℕ). x ++ drop at out) (c.front ∙ take_all at file (omega arith)) ∙ ap (λ (x : List ℕ). file ++ x) (c.rest ∙ ap (λ (n : ℕ). drop n out₀) e)
 
 pub copy_more : (file out₀ out b : List ℕ) (at k : ℕ) → k ≡ length b → at + length b ≤ length out → b ≡ take (length b) (drop at file) → Copied file out₀ at out → Copied file out₀ (at + length b) (put_mid at k out b)
 copy_more file out₀ out b at k e h bs c = record {

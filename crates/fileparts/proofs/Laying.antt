@@ -1,5 +1,5 @@
 -- The layout of a file from its front, its settings and the shape of its stream.
-use Rattle.std.proofs.Common.{◌≡◌, ℕ, pred, ◌+◌, ◌-◌, ◌*◌, ◌/◌, ◌^◌, ◌≤◌, List, [], length, get_or, Ok, Result, sym, refl, ap, ◌∙◌, subst, div-le_self, arith}
+use Rattle.std.proofs.Common.{◌≡◌, ℕ, ◌+◌, ◌*◌, List, [], length, get_or, Ok, Result, sym, refl, ap, ◌∙◌, subst, arith}
 use Rattle.cipher.specs.Meaning.{paper}
 use Rattle.elmd.specs.declared.refusal.Refusal.{Refusal}
 use Rattle.elmd.specs.declared.settings.Settings.{Settings}
@@ -7,13 +7,13 @@ use Rattle.elmd.specs.declared.shape.Shape.{Shape}
 use Rattle.elmd.specs.Settings.{settings_bytes, settings_answer}
 use Rattle.elmd.specs.Refusals.{mark_number}
 use Rattle.elmd.specs.Heading.{frame_of}
-use Rattle.elmd.specs.Stream.{Frame, t_of}
+use Rattle.elmd.specs.Stream.{Frame}
 use Rattle.elmd.specs.Shape.{Laid}
 use Rattle.elmd.proofs.Counts.{interval_is}
 use Rattle.payfile.specs.declared.refusal.FileRefusal.{FileRefusal}
 use Rattle.payfile.specs.declared.front.Front.{Front}
 use Rattle.payfile.specs.Refusals.{after, of_seal}
-use Rattle.payfile.specs.Layout.{Fronts, front_answer, settings_in, mark_in, stream_size}
+use Rattle.payfile.specs.Layout.{Fronts, front_answer, settings_in, stream_size}
 use Rattle.fileparts.specs.Parts.{Layout}
 use Rattle.fileparts.specs.Reads.{early_answer, Possible, Lays}
 
@@ -26,22 +26,16 @@ early_ok file s front e own =
 abbrev pub some_frame : List ℕ → Frame
 some_frame s = frame_of (paper 0) s [] []
 
-pub few : {S k : ℕ} (s : List ℕ) (h : Shape) → Laid (some_frame s) S k h → (h.blocks ≤ 2 ^ 20) × (h.checks ≤ 2 ^ 20)
-few s h laid =
-    let m = laid.most in
-    let c = laid.h_is in
-    let d : pred h.blocks / t_of (some_frame s) ≤ pred h.blocks = div-le_self (pred h.blocks) (t_of (some_frame s)) in
-    (m, omega arith)
-
 module _ (file : List ℕ) (f : Front) (s : Settings) (h : Shape) (fronts : Fronts file f) (bytes : settings_bytes s ≡ f.settings)
     (shaped : (u : Frame) → settings_bytes s ≡ u.settings → Laid u f.stream (mark_number f.mark) h) where
-  tag_is : length file - (26 + f.heading + 16 * (h.blocks + h.checks)) ≡ h.tag
-  tag_is =
+  -- no byte stands beside the parts
+  pub adds : length file ≡ 26 + f.heading + 16 * (h.blocks + h.checks) + h.tag
+  adds =
       let l = (shaped (some_frame (settings_bytes s)) refl).size in
       let n = fronts.size in
       omega arith
 
-  pub lays : Lays file (record { interval = s.interval; heading = f.heading; shape = record { blocks = h.blocks; checks = h.checks; tag = length file - (26 + f.heading + 16 * (h.blocks + h.checks)) } })
+  pub lays : Lays file (record { interval = s.interval; heading = f.heading; shape = h })
   lays = record {
     size = let n = fronts.size in let a = fronts.heading_is in let b = fronts.stream_is in omega arith;
     heading_is = fronts.heading_is;
@@ -49,9 +43,7 @@ module _ (file : List ℕ) (f : Front) (s : Settings) (h : Shape) (fronts : Fron
     stream_is = λ u e.
         let l : Laid u f.stream (mark_number f.mark) h = shaped u (bytes ∙ fronts.settings_is ∙ sym e) in
         let a = subst (λ (S : ℕ). Laid u S (mark_number f.mark) h) fronts.stream_is l in
-        let b = subst (λ (k : ℕ). Laid u (stream_size file) k h) fronts.mark_is a in
-        let P : ℕ → Type 0 = λ t. Laid u (stream_size file) (mark_in file) (record { blocks = h.blocks; checks = h.checks; tag = t }) in
-        subst P (sym tag_is) b;
+        subst (λ (k : ℕ). Laid u (stream_size file) k h) fronts.mark_is a;
   }
 
 pub possible : (file : List ℕ) (y : Layout) → Lays file y → Possible file

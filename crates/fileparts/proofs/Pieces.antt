@@ -1,32 +1,27 @@
 -- Part after part through a file: each begins where the one before ended, and the last ends with the file.
-use Rattle.std.proofs.Common.{◌≡◌, ℕ, ◌+◌, ◌-◌, ◌*◌, ◌<◌, ◌≤◌, cond, eqb, ltb, refl, ap, ◌∙◌, ⊎_elim, arith}
-use Rattle.std.proofs.lemmas.Bool.{cases_eq, cases_lt, cond-true, cond-false, cond_both, eq-eqb, ne_eqb, lt-ltb, le-ltb}
+use Rattle.std.proofs.Common.{◌≡◌, ℕ, ◌+◌, ◌-◌, ◌*◌, ◌<◌, ◌≤◌, ap, ◌∙◌, ⊎_elim, arith}
+use Rattle.std.proofs.lemmas.Bool.{cases_eq, cases_lt}
+use Rattle.std.proofs.lemmas.Bool.Decides.{nat_tests}
 use Rattle.fileparts.specs.Parts.{front_part, heading_part, tag_part, Piece, piece, Layout, spots, parts, kind_in, stream_piece, piece_at}
 
 pub at_front : (y : Layout) (n : ℕ) → n ≡ 0 → piece_at y n ≡ piece front_part 0 26
-at_front y n e = cond-true (eqb n 0) (piece front_part 0 26) (cond (eqb n 1) (piece heading_part 26 y.heading) (stream_piece y (n - 2))) (eq-eqb n 0 e)
-
-past_front : (y : Layout) (n : ℕ) → 1 ≤ n → piece_at y n ≡ cond (eqb n 1) (piece heading_part 26 y.heading) (stream_piece y (n - 2))
-past_front y n h = cond-false (eqb n 0) (piece front_part 0 26) (cond (eqb n 1) (piece heading_part 26 y.heading) (stream_piece y (n - 2))) (ne_eqb n 0 (λ e. omega arith))
+at_front y n e = grind (arith, nat_tests)
 
 pub at_heading : (y : Layout) (n : ℕ) → n ≡ 1 → piece_at y n ≡ piece heading_part 26 y.heading
-at_heading y n e = past_front y n (omega arith) ∙ cond-true (eqb n 1) (piece heading_part 26 y.heading) (stream_piece y (n - 2)) (eq-eqb n 1 e)
+at_heading y n e = grind (arith, nat_tests)
 
 pub at_stream : (y : Layout) (n e : ℕ) → n ≡ 2 + e → piece_at y n ≡ stream_piece y e
-at_stream y n e h =
-    let k : n - 2 ≡ e = omega arith in
-    past_front y n (omega arith) ∙ cond-false (eqb n 1) (piece heading_part 26 y.heading) (stream_piece y (n - 2)) (ne_eqb n 1 (λ x. omega arith)) ∙ ap (stream_piece y) k
+at_stream y n e h = let k : n - 2 ≡ e = omega arith in grind (arith, nat_tests)
 
 module _ (y : Layout) (e : ℕ) where
   pub stream_inner : e < spots y → stream_piece y e ≡ piece (kind_in y.interval e) (26 + y.heading + 16 * e) 16
-  stream_inner h = cond-true (ltb e (spots y)) (piece (kind_in y.interval e) (26 + y.heading + 16 * e) 16) (piece tag_part (26 + y.heading + 16 * e) y.shape.tag) (lt-ltb e (spots y) h)
+  stream_inner h = grind (arith, nat_tests)
 
   pub stream_tag : spots y ≤ e → stream_piece y e ≡ piece tag_part (26 + y.heading + 16 * e) y.shape.tag
-  stream_tag h = cond-false (ltb e (spots y)) (piece (kind_in y.interval e) (26 + y.heading + 16 * e) 16) (piece tag_part (26 + y.heading + 16 * e) y.shape.tag) (le-ltb e (spots y) h)
+  stream_tag h = grind (arith, nat_tests)
 
   stream_place_lem : (stream_piece y e).place ≡ 26 + y.heading + 16 * e
-  stream_place_lem =
-      cond_both (ltb e (spots y)) (piece (kind_in y.interval e) (26 + y.heading + 16 * e) 16) (piece tag_part (26 + y.heading + 16 * e) y.shape.tag) (λ (q : Piece). q.place ≡ 26 + y.heading + 16 * e) (λ _. refl) (λ _. refl)
+  stream_place_lem = grind (arith, nat_tests)
 
 -- the bytes of all parts
 abbrev pub whole : Layout → ℕ

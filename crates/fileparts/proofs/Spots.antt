@@ -1,14 +1,15 @@
 -- What stands at the place of a block and of a check.
-use Rattle.std.proofs.Common.{◌≡◌, ℕ, zero, suc, pred, ◌+◌, ◌-◌, ◌*◌, ◌/◌, ◌%◌, ◌<◌, ◌≤◌, eqb, ltb, ap, ◌∙◌, ⊎_elim, suc-mul, div-add-mod', mul-suc, arith}
+use Rattle.std.proofs.Common.{◌≡◌, ℕ, zero, suc, pred, ◌+◌, ◌-◌, ◌*◌, ◌/◌, ◌%◌, ◌<◌, ◌≤◌, eqb, ap, ◌∙◌, ⊎_elim, suc-mul, div-add-mod', mul-suc, arith}
 use native.Mathlib.Nat.{div-zero}
 use Rattle.std.proofs.lemmas.Nat.{div-mul-add, mod_below}
-use Rattle.std.proofs.lemmas.Bool.{cases_eq, cond-true, cond-false, eq-eqb, ne_eqb, lt-ltb, le-ltb}
+use Rattle.std.proofs.lemmas.Bool.Decides.{nat_tests}
+use Rattle.std.proofs.lemmas.Bool.{cases_eq, cond-false, ne_eqb}
 use Rattle.elmd.proofs.Quo.{quo_mono, quo_fits}
 use Rattle.elmd.specs.Stream.{Frame, t_of, checks, spot, check_spot, tag_spot}
 use Rattle.fileparts.specs.Parts.{block_part, check_part, checks_before, kind_in}
 
 before_none : (t e : ℕ) → t ≡ 0 → checks_before t e ≡ 0
-before_none t e z = cond-true (eqb t 0) 0 (e / (t + 1)) (eq-eqb t 0 z)
+before_none t e z = grind (arith, nat_tests)
 
 -- a places by t + 1 and r more
 before_some : (t e q r : ℕ) → (t ≡ 0 → ⊥) → e ≡ q * suc t + r → r < suc t → checks_before t e ≡ q
@@ -17,14 +18,10 @@ before_some t e q r n s h =
     cond-false (eqb t 0) 0 (e / (t + 1)) (ne_eqb t 0 n) ∙ ap (λ (x : ℕ). e / x) d ∙ ap (λ (x : ℕ). x / suc t) s ∙ div-mul-add q (suc t) r h
 
 is_block : (t e b : ℕ) → checks_before t e ≡ b → checks_before t (e + 1) ≡ b → kind_in t e ≡ block_part (e + 1 - b)
-is_block t e b p q =
-    cond-false (ltb (checks_before t e) (checks_before t (e + 1))) (check_part (checks_before t (e + 1))) (block_part (e + 1 - checks_before t e)) (le-ltb (checks_before t e) (checks_before t (e + 1)) (omega arith))
-    ∙ ap (λ (x : ℕ). block_part (e + 1 - x)) p
+is_block t e b p q = rw (p, q) (grind (arith, nat_tests))
 
 is_check : (t e b : ℕ) → checks_before t e ≡ b → checks_before t (e + 1) ≡ suc b → kind_in t e ≡ check_part (suc b)
-is_check t e b p q =
-    cond-true (ltb (checks_before t e) (checks_before t (e + 1))) (check_part (checks_before t (e + 1))) (block_part (e + 1 - checks_before t e)) (lt-ltb (checks_before t e) (checks_before t (e + 1)) (omega arith))
-    ∙ ap check_part q
+is_check t e b p q = rw (p, q) (grind (arith, nat_tests))
 
 pub block_kind : (t k : ℕ) → kind_in t (k + k / t) ≡ block_part (suc k)
 block_kind t k =

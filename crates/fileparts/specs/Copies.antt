@@ -5,10 +5,6 @@ use Rattle.payfile.specs.declared.refusal.FileRefusal.{FileRefusal}
 use Rattle.payfile.specs.declared.refusal.FileRefusal.TheVariants.{Seal}
 use Rattle.fileparts.specs.Reads.{early_answer, Possible, Impossible}
 
--- the file stands at the start, and its length is answered
-abbrev pub Joins : (file out : List ℕ) (n : ℕ) (out' : List ℕ) → Type 0
-Joins file out n out' = (n ≡ length file) × (out' ≡ file ++ drop (length file) out)
-
 -- the reader's refusals, then one for want of room; a copy is the file itself
 pub record Copies (file out : List ℕ) (r : Result ℕ FileRefusal) (out' : List ℕ) : Type 0 where
   pub early : (e : FileRefusal) → early_answer file ≡ Err e → (r ≡ Err e) × (out' ≡ out)

@@ -85,13 +85,9 @@ abbrev pub Taken : (file : List ℕ) (many n : ℕ) (q : Piece) → Option Part 
 Taken file many n q (Some p) = (n < many) × (q.place + q.size ≤ length file) × IsPiece file q p
 Taken file many n q None = n < many → q.place + q.size ≤ length file → ⊥
 
--- A reader: the tag goes to the end of the file.
+-- of a reader; the tag goes to the end of the file
 abbrev pub layout_of : Reader → Layout
-layout_of r = record {
-  interval = r.interval;
-  heading = r.heading;
-  shape = record { blocks = r.blocks; checks = r.checks; tag = length r.file.now - (26 + r.heading + 16 * (r.blocks + r.checks)) };
-}
+layout_of r = record { interval = r.settings.interval; heading = r.heading; shape = r.shape }
 
 abbrev pub left_of : Reader → ℕ
 left_of r = parts (layout_of r) - r.given

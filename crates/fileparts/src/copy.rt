@@ -1,6 +1,6 @@
 // A walk through a file.
-ghost use Rattle.std.specs.Prelude.{◌≤◌, length};
-ghost use Rattle.fileparts.specs.Copies.{Copies, Joins};
+ghost use Rattle.std.specs.Prelude.{◌≡◌, ◌≤◌, ◌++◌, length, drop};
+ghost use Rattle.fileparts.specs.Copies.{Copies};
 ghost use Rattle.fileparts.specs.Reads.{Starts};
 
 use crate::reader::Reader;
@@ -11,27 +11,23 @@ use payfile::refusal::FileRefusal;
 pub fn copy_parts(file: &[u8], out: &mut [u8]) -> Result<usize, FileRefusal>
     ensures { Copies file.now out.old result out.new }
 {
-    let reader = match Reader::new(file) {
-        Ok(reader) => reader,
-        Err(why) => return Err(why),
-    };
+    let reader = Reader::new(file)?;
     if out.len() < file.len() {
-        return Err(FileRefusal::Seal(Refusal::OutputShort));
+        return Err(Refusal::OutputShort.into());
     }
-    Ok(join(reader, out))
+    join(reader, out);
+    Ok(file.len())
 }
 
-// Joins the parts that a new reader gives.
-fn join(reader: Reader, out: &mut [u8]) -> usize
-    requires { (Starts reader.file.now reader) × (length reader.file.now ≤ length out.old) }
-    ensures { Joins reader.entry.file.now out.old result out.new }
+// Copies the parts that a new reader gives, each to its place.
+fn join(reader: Reader, out: &mut [u8])
+    requires starts { Starts reader.file.now reader }
+    requires room { length reader.file.now ≤ length out.old }
+    ensures { out.new ≡ reader.entry.file.now ++ drop (length reader.entry.file.now) out.old }
 {
-    let mut at = 0;
     for part in reader {
+        let place = part.place();
         let bytes = part.bytes();
-        let to = at + bytes.len();
-        out[at..to].copy_from_slice(bytes);
-        at = to;
+        out[place..place + bytes.len()].copy_from_slice(bytes);
     }
-    at
 }

@@ -3,6 +3,7 @@ ghost use Rattle.std.specs.Prelude.{◌≡◌};
 ghost use Rattle.fileparts.specs.Parts.{bytes_of, place_of};
 
 // Which part it is, at which byte of the file it begins, and its bytes there. Blocks and checks count from 1.
+// By a rule of the project a reader's parts are an enum, each borrowing its bytes from the file.
 #[derive(Clone, Copy)]
 pub enum Part<'a> {
     Front {
@@ -34,11 +35,11 @@ impl<'a> Part<'a> {
         ensures { result.now ≡ bytes_of self.entry }
     {
         match self {
-            Part::Front { bytes, .. } => bytes,
-            Part::Heading { bytes, .. } => bytes,
-            Part::Block { bytes, .. } => bytes,
-            Part::Check { bytes, .. } => bytes,
-            Part::Tag { bytes, .. } => bytes,
+            Part::Front { bytes, .. }
+            | Part::Heading { bytes, .. }
+            | Part::Block { bytes, .. }
+            | Part::Check { bytes, .. }
+            | Part::Tag { bytes, .. } => bytes,
         }
     }
 
@@ -46,11 +47,11 @@ impl<'a> Part<'a> {
         ensures { result ≡ place_of self.entry }
     {
         match self {
-            Part::Front { place, .. } => place,
-            Part::Heading { place, .. } => place,
-            Part::Block { place, .. } => place,
-            Part::Check { place, .. } => place,
-            Part::Tag { place, .. } => place,
+            Part::Front { place, .. }
+            | Part::Heading { place, .. }
+            | Part::Block { place, .. }
+            | Part::Check { place, .. }
+            | Part::Tag { place, .. } => place,
         }
     }
 }

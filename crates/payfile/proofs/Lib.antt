@@ -1,4 +1,4 @@
-pub mod Fields
+pub mod Marks
 pub mod Numerals
 pub mod Puts
 pub mod Files

@@ -21,7 +21,7 @@ use Rattle.payfile.specs.Layout.{file_of, pay_file, frame_in, stream_in, setting
 use Rattle.payfile.specs.Write.{message_answer, sealed_answer, written}
 use Rattle.payfile.specs.Open.{file_answer, FileOpened, Filed, let_out, Exactly, GivenBack}
 use Rattle.payfile.proofs.Files.{after_ok, sizes, stream_small, file_length}
-use Rattle.payfile.proofs.Parsed.{version_is, heading_size_is, stream_size_lem, nonce_is, settings_is, mark_is, heading_is, stream_is, laid_back}
+use Rattle.payfile.proofs.Parsed.{ReadBack, read_back, laid_back}
 
 -- a front that is accepted
 record Sound (file : List ℕ) : Type 0 where
@@ -45,11 +45,11 @@ accepted file s =
 
 after_both : (x y : Result Unit FileRefusal) → after x y ≡ Ok tt → (x ≡ Ok tt) × (y ≡ Ok tt)
 after_both (Ok tt) y e = (refl, e)
-after_both (Err w) y e = let z : ◌≡◌ {A = ℕ} 0 1 = cc in absurd (omega arith)
+after_both (Err w) y e = cc
 
 of_seal_ok : (q : Result ℕ Refusal) (n : ℕ) → of_seal q ≡ Ok n → q ≡ Ok n
 of_seal_ok (Ok k) n e = cc
-of_seal_ok (Err w) n e = let z : ◌≡◌ {A = ℕ} 0 1 = cc in absurd (omega arith)
+of_seal_ok (Err w) n e = cc
 
 -- a file round a seal
 module _ (u : Frame) (m : List ℕ) (f : Filed u m) where
@@ -62,16 +62,20 @@ module _ (u : Frame) (m : List ℕ) (f : Filed u m) where
   ss : length (stream u m) < 4294967296
   ss = let h = f.fits in stream_small u m f.some (omega arith)
 
+  back : ReadBack u.nonce u.settings (mark m) u.heading (stream u m) here
+  back = read_back u.nonce u.settings (mark m) u.heading (stream u m) f.nonce_size f.settings_size hs ss
+
   here_sound : Sound here
   here_sound =
-      let H = heading_size_is u.nonce u.settings (mark m) u.heading (stream u m) f.nonce_size f.settings_size hs in
-      let S = stream_size_lem u.nonce u.settings (mark m) u.heading (stream u m) f.nonce_size f.settings_size ss in
-      let k = mark_is u.nonce u.settings (mark m) u.heading (stream u m) f.nonce_size f.settings_size in
+      let b = back in
+      let h = b.heading_size_read in
+      let s = b.stream_size_read in
+      let k = b.marked_read in
       let l = file_length u.nonce u.settings (mark m) u.heading (stream u m) f.nonce_size f.settings_size in
-      let h = f.heading_size_is in
+      let most = f.heading_size_is in
       record {
         long = omega arith;
-        version = version_is u.nonce u.settings (mark m) u.heading (stream u m) f.nonce_size f.settings_size;
+        version = b.version_read;
         marked = ⊎_elim (λ e. omega arith) (λ e. omega arith) (mark_cases m);
         short = omega arith;
         adds = omega arith;
@@ -79,23 +83,20 @@ module _ (u : Frame) (m : List ℕ) (f : Filed u m) where
 
   answered : file_answer u.cipher here ≡ Ok tt
   answered =
-      ap (λ (x : Result Unit FileRefusal). after x (label_answer u.cipher.label (settings_in here))) (accepted here here_sound)
-      ∙ ap (label_answer u.cipher.label) (settings_is u.nonce u.settings (mark m) u.heading (stream u m) f.nonce_size f.settings_size) ∙ f.accepted
+      ap (λ (x : Result Unit FileRefusal). after x (label_answer u.cipher.label (settings_in here))) (accepted here here_sound) ∙ ap (label_answer u.cipher.label) back.settings_read ∙ f.accepted
 
   framed : frame_in u.cipher here ≡ u
   framed =
-      let a = settings_is u.nonce u.settings (mark m) u.heading (stream u m) f.nonce_size f.settings_size in
-      let b = nonce_is u.nonce u.settings (mark m) u.heading (stream u m) f.nonce_size f.settings_size in
-      let c = heading_is u.nonce u.settings (mark m) u.heading (stream u m) f.nonce_size f.settings_size hs in
-      ap (λ (x : List ℕ). frame_of u.cipher x (nonce_in here) (heading_in here)) a ∙ ap (λ (x : List ℕ). frame_of u.cipher u.settings x (heading_in here)) b ∙ ap (frame_of u.cipher u.settings u.nonce) c
+      ap (λ (x : List ℕ). frame_of u.cipher x (nonce_in here) (heading_in here)) back.settings_read ∙ ap (λ (x : List ℕ). frame_of u.cipher u.settings x (heading_in here)) back.nonce_read
+      ∙ ap (frame_of u.cipher u.settings u.nonce) back.heading_read
 
   pub opens : (out : List ℕ) (r : Result ℕ FileRefusal) (out' : List ℕ) → FileOpened u.cipher here out r out' → 16 * blocks m ≤ length out → (r ≡ Ok (length m)) × (out' ≡ let_out m out)
   opens out r out' o room =
       let l = o.later answered in
       let q : Result ℕ Refusal = l.0 in
       let a : StreamOpened u (stream_in here) (mark_in here) out q out' = subst (λ (v : Frame). StreamOpened v (stream_in here) (mark_in here) out q out') framed l.2 in
-      let b : StreamOpened u (stream u m) (mark_in here) out q out' = subst (λ (z : List ℕ). StreamOpened u z (mark_in here) out q out') (stream_is u.nonce u.settings (mark m) u.heading (stream u m) f.nonce_size f.settings_size hs) a in
-      let s : StreamOpened u (stream u m) (mark m) out q out' = subst (λ (k : ℕ). StreamOpened u (stream u m) k out q out') (mark_is u.nonce u.settings (mark m) u.heading (stream u m) f.nonce_size f.settings_size) b in
+      let b : StreamOpened u (stream u m) (mark_in here) out q out' = subst (λ (z : List ℕ). StreamOpened u z (mark_in here) out q out') back.stream_read a in
+      let s : StreamOpened u (stream u m) (mark m) out q out' = subst (λ (k : ℕ). StreamOpened u (stream u m) k out q out') back.marked_read b in
       let hm : MessageOf u (length (stream u m)) (mark m) m = record { bytes = f.bytes; some = f.some; fits = f.fits; size = refl; marked = refl } in
       let bl : blocks_of u (length (stream u m)) ≡ blocks m = (lengths u m f.some).back in
       let j = (s.judged m hm (omega arith)).accepts m (hm, refl) in
@@ -103,7 +104,7 @@ module _ (u : Frame) (m : List ℕ) (f : Filed u m) where
 
 module _ (c : Meaning) (file : List ℕ) (bytes : Bytes file) (out : List ℕ) (r : Result ℕ FileRefusal) (out' : List ℕ) (o : FileOpened c file out r out') where
   only_by : (x : Result Unit FileRefusal) → file_answer c file ≡ x → (n : ℕ) → r ≡ Ok n → (u : Frame) × (m : List ℕ) × (u.cipher ≡ c) × Filed u m × (file ≡ pay_file u m) × (length m ≡ n)
-  only_by (Err w) e n p = let s = (o.early w e).0 in let z : ◌≡◌ {A = ℕ} 0 1 = cc in absurd (omega arith)
+  only_by (Err w) e n p = let s = (o.early w e).0 in cc
   only_by (Ok tt) e n p =
       let both = after_both (front_answer file) (label_answer c.label (settings_in file)) e in
       let l = o.later e in
@@ -134,9 +135,6 @@ module _ (c : Meaning) (file : List ℕ) (bytes : Bytes file) (out : List ℕ) (
     all = λ u m e f same room. opens u m f out r out' (subst (λ (z : List ℕ). FileOpened u.cipher z out r out') same (subst (λ (z : Meaning). FileOpened z file out r out') (sym e) o)) room;
   }
 
-pub refused : (c : Meaning) (file out : List ℕ) (w : FileRefusal) → file_answer c file ≡ Err w → FileOpened c file out (Err w) out
-refused c file out w e = record { early = λ x p. (let s : w ≡ x = cc in ap (λ (y : FileRefusal). Err y) s, refl); later = λ p. let z : ◌≡◌ {A = ℕ} 0 1 = cc in absurd (omega arith) }
-
 pub judged : (c : Meaning) (file out : List ℕ) (q : Result ℕ Refusal) (out' : List ℕ) (u : Frame) (s : List ℕ) (k : ℕ) → u ≡ frame_in c file → s ≡ stream_in file → k ≡ mark_in file
     → front_answer file ≡ Ok tt → label_answer c.label (settings_in file) ≡ Ok tt → Opened u s k out q out' → Found u s k q → FileOpened c file out (of_seal q) out'
 judged c file out q out' u s k eu es ek ef el o w =
@@ -153,18 +151,18 @@ judged c file out q out' u s k eu es ek ef el o w =
     let y : Found (frame_in c file) (stream_in file) k q = subst (λ (z : List ℕ). Found (frame_in c file) z k q) es x in
     let z : Found (frame_in c file) (stream_in file) (mark_in file) q = subst (λ (n : ℕ). Found (frame_in c file) (stream_in file) n q) ek y in
     record {
-      early = λ e p. let z : ◌≡◌ {A = ℕ} 0 1 = cc in absurd (omega arith);
+      early = λ e p. cc;
       later = λ p. (q, refl, d.later front, z);
     }
 
 after_value : (x : Result Unit FileRefusal) (y : Result ℕ FileRefusal) (n : ℕ) → Ok n ≡ after x y → (x ≡ Ok tt) × (Ok n ≡ y)
 after_value (Ok tt) y n e = (refl, e)
-after_value (Err w) y n e = let z : ◌≡◌ {A = ℕ} 0 1 = cc in absurd (omega arith)
+after_value (Err w) y n e = cc
 
 no_refusal : (b d : Bool) (e f : FileRefusal) (k n : ℕ) → Ok n ≡ cond b (Err e) (cond d (Err f) (Ok k)) → (b ≡ false) × (n ≡ k)
 no_refusal false false e f k n p = (refl, cc)
-no_refusal false true e f k n p = let z : ◌≡◌ {A = ℕ} 0 1 = cc in absurd (omega arith)
-no_refusal true d e f k n p = let z : ◌≡◌ {A = ℕ} 0 1 = cc in absurd (omega arith)
+no_refusal false true e f k n p = cc
+no_refusal true d e f k n p = cc
 
 -- what was written under a heading opens
 pub given_back : (u : Frame) (m out out' : List ℕ) (room : ℕ) (r : Result ℕ FileRefusal) → r ≡ sealed_answer u m room → out' ≡ written u m out r → Bytes m → length u.nonce ≡ 8 → length u.settings ≡ 8 → length u.heading ≤ 65536

@@ -21,21 +21,21 @@ module _ (nonce settings : List ℕ) (k : ℕ) (heading s : List ℕ) (n8 : leng
   abbrev is : laid ≡ row nonce settings k heading s
   is = row_is nonce settings k heading s
 
-  pub version_is : get_or laid 0 0 ≡ 1
+  version_is : get_or laid 0 0 ≡ 1
   version_is = ap (λ (f : List ℕ). get_or f 0 0) is
 
-  pub heading_size_is : length heading < 4294967296 → heading_size laid ≡ length heading
+  heading_size_is : length heading < 4294967296 → heading_size laid ≡ length heading
   unfolding heading_size
   heading_size_is h = ap (λ (f : List ℕ). of_bytes (take 4 (drop 1 f))) is ∙ number_bytes_by 4 (length heading) ∙ omega arith
 
-  pub stream_size_lem : length s < 4294967296 → stream_size laid ≡ length s
+  stream_size_is : length s < 4294967296 → stream_size laid ≡ length s
   unfolding stream_size
-  stream_size_lem h = ap (λ (f : List ℕ). of_bytes (take 4 (drop 5 f))) is ∙ number_bytes_by 4 (length s) ∙ omega arith
+  stream_size_is h = ap (λ (f : List ℕ). of_bytes (take 4 (drop 5 f))) is ∙ number_bytes_by 4 (length s) ∙ omega arith
 
-  pub nonce_is : nonce_in laid ≡ nonce
+  nonce_is : nonce_in laid ≡ nonce
   nonce_is = ap nonce_in is ∙ take_at nonce (settings ++ k ∷ (heading ++ s)) 8 n8
 
-  pub settings_is : settings_in laid ≡ settings
+  settings_is : settings_in laid ≡ settings
   settings_is = ap settings_in is ∙ ap (take 8) (drop_at nonce (settings ++ k ∷ (heading ++ s)) 8 n8) ∙ take_at settings (k ∷ (heading ++ s)) 8 s8
 
   both : length (nonce ++ settings) ≡ 16
@@ -44,7 +44,7 @@ module _ (nonce settings : List ℕ) (k : ℕ) (heading s : List ℕ) (n8 : leng
   behind : nonce ++ (settings ++ k ∷ (heading ++ s)) ≡ (nonce ++ settings) ++ k ∷ (heading ++ s)
   behind = sym (append_assoc nonce settings (k ∷ (heading ++ s)))
 
-  pub mark_is : mark_in laid ≡ k
+  mark_is : mark_in laid ≡ k
   mark_is = ap mark_in is ∙ ap (λ (f : List ℕ). get_or f 16 0) behind ∙ get_or_at (nonce ++ settings) k (heading ++ s) 0 16 both
 
   rest_is : drop 26 laid ≡ heading ++ s
@@ -52,11 +52,35 @@ module _ (nonce settings : List ℕ) (k : ℕ) (heading s : List ℕ) (n8 : leng
       ap (drop 26) is ∙ sym (drop-drop 1 16 (nonce ++ (settings ++ k ∷ (heading ++ s)))) ∙ ap (λ (f : List ℕ). drop 1 (drop 16 f)) behind
       ∙ ap (drop 1) (drop_at (nonce ++ settings) (k ∷ (heading ++ s)) 16 both)
 
-  pub heading_is : length heading < 4294967296 → heading_in laid ≡ heading
+  heading_is : length heading < 4294967296 → heading_in laid ≡ heading
   heading_is h = ap (λ (n : ℕ). take n (drop 26 laid)) (heading_size_is h) ∙ ap (take (length heading)) rest_is ∙ take_at heading s (length heading) refl
 
-  pub stream_is : length heading < 4294967296 → stream_in laid ≡ s
+  stream_is : length heading < 4294967296 → stream_in laid ≡ s
   stream_is h = ap (λ (n : ℕ). drop (26 + n) laid) (heading_size_is h) ∙ sym (drop-drop (length heading) 26 laid) ∙ ap (drop (length heading)) rest_is ∙ drop_at heading s (length heading) refl
+
+-- what a file of these fields is read as
+pub record ReadBack (nonce settings : List ℕ) (k : ℕ) (heading s file : List ℕ) : Type 0 where
+  pub version_read : get_or file 0 0 ≡ 1
+  pub heading_size_read : heading_size file ≡ length heading
+  pub stream_size_read : stream_size file ≡ length s
+  pub nonce_read : nonce_in file ≡ nonce
+  pub settings_read : settings_in file ≡ settings
+  pub marked_read : mark_in file ≡ k
+  pub heading_read : heading_in file ≡ heading
+  pub stream_read : stream_in file ≡ s
+
+pub read_back : (nonce settings : List ℕ) (k : ℕ) (heading s : List ℕ) → length nonce ≡ 8 → length settings ≡ 8 → length heading < 4294967296 → length s < 4294967296
+    → ReadBack nonce settings k heading s (file_of nonce settings k heading s)
+read_back nonce settings k heading s n8 s8 h4 s4 = record {
+  version_read = version_is nonce settings k heading s n8 s8;
+  heading_size_read = heading_size_is nonce settings k heading s n8 s8 h4;
+  stream_size_read = stream_size_is nonce settings k heading s n8 s8 s4;
+  nonce_read = nonce_is nonce settings k heading s n8 s8;
+  settings_read = settings_is nonce settings k heading s n8 s8;
+  marked_read = mark_is nonce settings k heading s n8 s8;
+  heading_read = heading_is nonce settings k heading s n8 s8 h4;
+  stream_read = stream_is nonce settings k heading s n8 s8 h4;
+}
 
 -- a field and what is behind it
 joined : (i n : ℕ) (xs : List ℕ) → take n (drop i xs) ++ drop (i + n) xs ≡ drop i xs

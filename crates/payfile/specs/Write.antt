@@ -1,5 +1,5 @@
 -- Writing a pay file: which answer comes, and what is written.
-use Rattle.std.specs.Prelude.{◌≡◌, ℕ, ◌+◌, cond, ◌||◌, List, ◌++◌, length, take, drop, Ok, Err, Result, ◌==◌, nat_lt}
+use Rattle.std.specs.Prelude.{ℕ, cond, ◌||◌, List, ◌++◌, length, drop, Ok, Err, Result, ◌==◌, nat_lt}
 use Rattle.elmd.specs.declared.refusal.Refusal.TheVariants.{MessageLength, OutputShort}
 use Rattle.elmd.specs.Stream.{Frame}
 use Rattle.payfile.specs.declared.refusal.FileRefusal.{FileRefusal}
@@ -25,9 +25,3 @@ write_answer u shed week m room = after (heading_answer shed week) (sealed_answe
 abbrev pub written : Frame → (m out : List ℕ) → Result ℕ FileRefusal → List ℕ
 written u m out (Ok n) = pay_file u m ++ drop (length (pay_file u m)) out
 written u m out (Err e) = out
-
--- a piece stands behind the first `at` bytes, up to `end`; what is behind it is as it was
-pub record Put (out : List ℕ) (at : ℕ) (piece : List ℕ) (end : ℕ) (out' : List ℕ) : Type 0 where
-  pub ends : end ≡ at + length piece
-  pub front : take end out' ≡ take at out ++ piece
-  pub back : drop end out' ≡ drop end out

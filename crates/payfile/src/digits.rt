@@ -10,40 +10,44 @@ const SHED_MOST: u32 = 9999;
 
 const WEEK_MOST: u32 = 53;
 
-// Puts the digits of `n` behind the first `at` bytes, and answers where they end; 0 has none.
-fn put_digits(out: &mut [u8], at: usize, n: u32) -> usize
-    requires { at + length (digits n) ≤ length out.old }
-    ensures end { result ≡ at + length (digits n) }
-    ensures front { take result out.new ≡ take at out.old ++ digits n }
-{
-    if n == 0 {
-        return at;
-    }
-    let end = put_digits(out, at, n / 10);
-    out[end] = b'0' + (n % 10) as u8;
-    end + 1
-}
-
 impl FileHeading {
     pub fn new(shed: u32, week: u32) -> Result<FileHeading, FileRefusal>
         ensures answer { told result ≡ heading_answer shed week }
         ensures value { IfOk result (λ h. take h.len h.digits ≡ heading_of shed week) }
     {
         if shed == 0 || shed > SHED_MOST {
-            return Err(FileRefusal::File(FileFault::Shed));
+            return Err(FileFault::Shed.into());
         }
         if week == 0 || week > WEEK_MOST {
-            return Err(FileRefusal::File(FileFault::Week));
+            return Err(FileFault::Week.into());
         }
-        let mut digits = [0; 6];
-        let at = put_digits(&mut digits, 0, shed);
-        let len = put_digits(&mut digits, at, week);
-        Ok(FileHeading { digits, len })
+        let mut heading = FileHeading {
+            digits: [0; 6],
+            len: 0,
+        };
+        heading.push(shed);
+        heading.push(week);
+        Ok(heading)
+    }
+
+    // Puts the digits of `n` behind the others; 0 has none. No plainer with `write!`: the law names each digit, and there is no
+    // allocator.
+    fn push(&mut self, n: u32)
+        requires { self.old.len + length (digits n) ≤ 6 }
+        ensures len { self.new.len ≡ self.old.len + length (digits n) }
+        ensures digits { take self.new.len self.new.digits ≡ take self.old.len self.old.digits ++ digits n }
+    {
+        if n == 0 {
+            return;
+        }
+        self.push(n / 10);
+        self.digits[self.len] = b'0' + (n % 10) as u8;
+        self.len += 1;
     }
 
     pub fn as_bytes(&self) -> &[u8]
         ensures { result.now ≡ take self.now.len self.now.digits }
     {
-        &self.digits[0..self.len]
+        &self.digits[..self.len]
     }
 }

@@ -5,14 +5,19 @@ ghost use Rattle.elmd.specs.Settings.{settings_bytes};
 ghost use Rattle.payfile.specs.Refusals.{told};
 ghost use Rattle.payfile.specs.Layout.{front_answer, Fronts, label_answer};
 
-use crate::front::Front;
+use crate::front::{FRONT, Front, VERSION};
 use crate::refusal::{FileFault, FileRefusal};
+use elmd::heading::HEADING_MOST;
 use elmd::refusal::Mark;
 use elmd::settings::Settings;
 
-const FRONT: usize = 26;
-
-const HEADING_MOST: usize = 65536;
+// The `N` bytes from `at` on.
+fn field<const N: usize>(file: &[u8], at: usize) -> [u8; N]
+    requires { at + N ≤ length file.now }
+    ensures { result ≡ take N (drop at file.now) }
+{
+    file[at..at + N].try_into().unwrap()
+}
 
 // A number of four bytes, highest first.
 fn number_at(file: &[u8], at: usize) -> usize
@@ -20,16 +25,7 @@ fn number_at(file: &[u8], at: usize) -> usize
     ensures value { result ≡ of_bytes (take 4 (drop at file.now)) }
     ensures small { result < 4294967296 }
 {
-    u32::from_be_bytes([file[at], file[at + 1], file[at + 2], file[at + 3]]) as usize
-}
-
-fn eight_at(file: &[u8], at: usize) -> [u8; 8]
-    requires { at + 8 ≤ length file.now }
-    ensures { result ≡ take 8 (drop at file.now) }
-{
-    let mut bytes = [0; 8];
-    bytes.copy_from_slice(&file[at..at + 8]);
-    bytes
+    u32::from_be_bytes(field(file, at)) as usize
 }
 
 // Judges the front of a file, and that its lengths add up to the file.
@@ -38,25 +34,23 @@ pub fn read_front(file: &[u8]) -> Result<Front, FileRefusal>
     ensures front { IfOk result (Fronts file.now) }
 {
     if file.len() < FRONT {
-        return Err(FileRefusal::File(FileFault::FileShort));
+        return Err(FileFault::FileShort.into());
     }
-    if file[0] != 1 {
-        return Err(FileRefusal::File(FileFault::Version));
+    if file[0] != VERSION {
+        return Err(FileFault::Version.into());
     }
-    let Some(mark) = Mark::from_number(file[25]) else {
-        return Err(FileRefusal::File(FileFault::MarkByte));
-    };
+    let mark = Mark::try_from(file[25]).map_err(|_| FileFault::MarkByte)?;
     let heading = number_at(file, 1);
     if heading > HEADING_MOST {
-        return Err(FileRefusal::File(FileFault::HeadingTooLong));
+        return Err(FileFault::HeadingTooLong.into());
     }
     let stream = number_at(file, 5);
     if file.len() != FRONT + heading + stream {
-        return Err(FileRefusal::File(FileFault::Lengths));
+        return Err(FileFault::Lengths.into());
     }
     Ok(Front {
-        nonce: eight_at(file, 9),
-        settings: eight_at(file, 17),
+        nonce: field(file, 9),
+        settings: field(file, 17),
         mark,
         heading,
         stream,
@@ -68,12 +62,10 @@ pub(crate) fn file_settings(settings: &[u8; 8], label: u8) -> Result<Settings, F
     ensures answer { told result ≡ label_answer label settings.now }
     ensures value { IfOk result (λ s. settings_bytes s ≡ settings.now) }
 {
-    let chosen = match Settings::read(settings, label) {
-        Ok(chosen) => chosen,
-        Err(why) => return Err(FileRefusal::Seal(why)),
-    };
+    let chosen = Settings::read(settings, label)?;
+    // 255 is the format's number for the paper cipher.
     if settings[0] == 255 {
-        return Err(FileRefusal::File(FileFault::PracticeLabel));
+        return Err(FileFault::PracticeLabel.into());
     }
     Ok(chosen)
 }

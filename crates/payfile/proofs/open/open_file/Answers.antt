@@ -1,70 +1,50 @@
-use Rattle.std.proofs.Common.{◌≡◌, ℕ, ◌+◌, ◌-◌, ◌<◌, List, length, take, drop, Ok, Err, Result, sym, refl, ap, ◌∙◌, subst, arith}
-use mir.Facts.{Fits-lt-pow}
-use Rattle.std.proofs.ByRecursion.{All-from_get_or}
+use Rattle.std.proofs.Common.{◌≡◌, ℕ, ◌+◌, ◌-◌, take, drop, Ok, Err, Result, sym, ap, ◌∙◌, subst, arith, rules}
 use Rattle.std.proofs.lemmas.List.{take_rest}
-use Rattle.block.specs.Bytes.{Bytes}
-use Rattle.cipher.specs.Meaning.{Meaning}
+use Rattle.std.proofs.lemmas.Result.{err_from_is_err_and}
 use Rattle.elmd.specs.Heading.{frame_of}
 use Rattle.payfile.specs.declared.refusal.FileRefusal.{FileRefusal}
-use Rattle.payfile.specs.declared.refusal.FileRefusal.TheVariants.{Seal}
-use Rattle.payfile.specs.Refusals.{after, of_seal}
+use Rattle.payfile.specs.Refusals.{of_seal}
 use Rattle.payfile.specs.Open.{FileOpened}
-use Rattle.payfile.specs.Layout.{nonce_in, stream_in, settings_in, label_answer, heading_size}
-use Rattle.payfile.proofs.Opened.{refused, judged, exactly}
+use Rattle.payfile.specs.Layout.{frame_in, settings_in, label_answer, heading_size}
+use Rattle.payfile.proofs.Files.{all_bytes}
+use Rattle.payfile.proofs.Opened.{judged, exactly}
 use Rattle.payfile.proofs.open.open_file.Given as given
 use Rattle.payfile.proofs.open.open_file.Goals as goal
 use Rattle.payfile.proofs.open.open_file.Goals.{After-open}
 
-pub returns-in-Err : goal.returns-in-Err
-returns-in-Err g c =
-    let m = g.C.Cipher.meaning c.args.c.now in
-    let file = c.args.file.now in
-    let bytes : Bytes file = All-from_get_or (λ (x : ℕ). x < 256) file 0 (λ i h. Fits-lt-pow (c.type_inv.file i)) in
-    let o = refused m file c.args.out.now c.in-Err.why (ap (λ (x : Result Unit FileRefusal). after x (label_answer m.label (settings_in file))) (sym c.in-Err.ensures.answer)) in
-    record { opened = o; exactly = exactly m file bytes c.args.out.now _ _ o; same = refl }
+pub returns-in_err-front-clause-exactly : goal.returns-in_err-front-clause-exactly
+returns-in_err-front-clause-exactly g c = exactly _ c.args.file.now (all_bytes c.args.file.now c.type_inv.file) _ _ _ (search rules)
 
-pub returns-in-Err-file_settings : goal.returns-in-Err-file_settings
-returns-in-Err-file_settings g c =
-    let m = g.C.Cipher.meaning c.args.c.now in
-    let file = c.args.file.now in
-    let bytes : Bytes file = All-from_get_or (λ (x : ℕ). x < 256) file 0 (λ i h. Fits-lt-pow (c.type_inv.file i)) in
-    let front = sym c.in-Ok.ensures.answer in
-    let label : Err c.in-Err-file_settings.why ≡ label_answer m.label (settings_in file) =
-    c.in-Err-file_settings.ensures.answer ∙ ap (λ (l : ℕ). label_answer l c.in-Ok.front.settings) c.label-label.ensures.value ∙ ap (label_answer m.label) c.in-Ok.ensures.front.settings_is in
-    let o = refused m file c.args.out.now c.in-Err-file_settings.why (ap (λ (x : Result Unit FileRefusal). after x (label_answer m.label (settings_in file))) front ∙ sym label) in
-    record { opened = o; exactly = exactly m file bytes c.args.out.now _ _ o; same = c.label-label.ensures.same }
+pub returns-in_err-file_settings-clause-exactly : goal.returns-in_err-file_settings-clause-exactly
+returns-in_err-file_settings-clause-exactly g c = exactly _ c.args.file.now (all_bytes c.args.file.now c.type_inv.file) _ _ _ (search rules)
 
 -- the seal was opened, and its answer is the file's
-core : (g : given.Over) (c : goal.After-open g) → FileOpened (g.C.Cipher.meaning c.args.c.now) c.args.file.now c.args.out.now (of_seal c.open.result) c.open.new.out
+core : (g : given.Over) (c : After-open g) → FileOpened (g.C.Cipher.meaning c.args.c.now) c.args.file.now c.args.out.now (of_seal c.open.result) c.open.new.out
 core g c =
     let m = g.C.Cipher.meaning c.args.c.now in
     let file = c.args.file.now in
-    let f = c.in-Ok.ensures.front in
-    let label : label_answer m.label (settings_in file) ≡ Ok tt =
-    sym (c.in_default.ensures.answer ∙ ap (λ (l : ℕ). label_answer l c.in-Ok.front.settings) c.label-label.ensures.value ∙ ap (label_answer m.label) f.settings_is) in
-    let size : 26 + c.in-Ok.front.heading - 26 ≡ heading_size file = (let h = f.heading_is in omega arith) in
-    let frame = ap (λ (z : Meaning). frame_of z c.in-Ok.front.settings c.in-Ok.front.nonce (take (26 + c.in-Ok.front.heading - 26) (drop 26 file))) c.label-label.ensures.same
-    ∙ ap (λ (z : List ℕ). frame_of m z c.in-Ok.front.nonce (take (26 + c.in-Ok.front.heading - 26) (drop 26 file))) f.settings_is
-    ∙ ap (λ (z : List ℕ). frame_of m (settings_in file) z (take (26 + c.in-Ok.front.heading - 26) (drop 26 file))) f.nonce_is
-    ∙ ap (λ (n : ℕ). frame_of m (settings_in file) (nonce_in file) (take n (drop 26 file))) size in
-    let stream : take (length file - (26 + c.in-Ok.front.heading)) (drop (26 + c.in-Ok.front.heading) file) ≡ stream_in file =
-    take_rest file (26 + c.in-Ok.front.heading) ∙ ap (λ (n : ℕ). drop (26 + n) file) f.heading_is in
-    judged m file c.args.out.now c.open.result c.open.new.out _ _ _ frame stream f.mark_is (sym c.in-Ok.ensures.answer) label c.open.ensures.opened c.open.ensures.found
+    let front = c.in_ok-front.front in
+    let f = c.in_ok-front.ensures.front in
+    let label : Ok tt ≡ label_answer m.label (settings_in file) =
+    c.in_ok-file_settings.ensures.answer ∙ ap (λ (l : ℕ). label_answer l front.settings) c.label.ensures.value ∙ ap (label_answer m.label) f.settings_is in
+    let settings = f.settings_is in
+    let nonce = f.nonce_is in
+    let heading = f.heading_is in
+    let same = c.label.ensures.same in
+    let size : 26 + front.heading - 26 ≡ heading_size file = omega arith in
+    let frame : frame_of (g.C.Cipher.meaning c.label.new.self) front.settings front.nonce (take (26 + front.heading - 26) (drop 26 file)) ≡ frame_in m file = cc in
+    judged m file c.args.out.now c.open.result c.open.new.out _ _ _ frame (take_rest file (26 + front.heading) ∙ ap (λ (n : ℕ). drop (26 + n) file) f.heading_is) f.mark_is (sym c.in_ok-front.ensures.answer) (sym label) c.open.ensures.opened c.open.ensures.found
 
-pub returns-in-Ok-open : goal.returns-in-Ok-open
-returns-in-Ok-open g c =
+pub returns-in_err-open : goal.returns-in_err-open
+returns-in_err-open g c =
     let m = g.C.Cipher.meaning c.args.c.now in
-    let file = c.args.file.now in
-    let bytes : Bytes file = All-from_get_or (λ (x : ℕ). x < 256) file 0 (λ i h. Fits-lt-pow (c.type_inv.file i)) in
-    let o : FileOpened m file c.args.out.now (Ok c.in-Ok-open.n) c.open.new.out =
-    subst (λ (r : Result ℕ FileRefusal). FileOpened m file c.args.out.now r c.open.new.out) (ap of_seal c.in-Ok-open.is) (core g (goal.at.returns-in-Ok-open g c).After-open) in
-    record { opened = o; exactly = exactly m file bytes c.args.out.now _ _ o; same = c.open.ensures.same ∙ c.label-label.ensures.same }
+    let p = err_from_is_err_and c.from_residual-in_err-open.result c.from_residual-in_err-open.ensures.1 in
+    let is : of_seal c.open.result ≡ c.from_residual-in_err-open.result = ap of_seal c.in_err-open.was ∙ ap (λ (e : FileRefusal). Err e) (sym p.2) ∙ sym p.1 in
+    let o = subst (λ (r : Result ℕ FileRefusal). FileOpened m c.args.file.now c.args.out.now r c.open.new.out) is (core g (goal.at.returns-in_err-open g c).After-open) in
+    record { opened = o; exactly = exactly m c.args.file.now (all_bytes c.args.file.now c.type_inv.file) _ _ _ o; same = c.open.ensures.same ∙ c.label.ensures.same }
 
-pub returns-in-Err-open : goal.returns-in-Err-open
-returns-in-Err-open g c =
+pub returns : goal.returns
+returns g c =
     let m = g.C.Cipher.meaning c.args.c.now in
-    let file = c.args.file.now in
-    let bytes : Bytes file = All-from_get_or (λ (x : ℕ). x < 256) file 0 (λ i h. Fits-lt-pow (c.type_inv.file i)) in
-    let o : FileOpened m file c.args.out.now (Err (Seal c.in-Err-open.why)) c.open.new.out =
-    subst (λ (r : Result ℕ FileRefusal). FileOpened m file c.args.out.now r c.open.new.out) (ap of_seal c.in-Err-open.is) (core g (goal.at.returns-in-Err-open g c).After-open) in
-    record { opened = o; exactly = exactly m file bytes c.args.out.now _ _ o; same = c.open.ensures.same ∙ c.label-label.ensures.same }
+    let o = subst (λ (r : Result ℕ FileRefusal). FileOpened m c.args.file.now c.args.out.now r c.open.new.out) (ap of_seal c.in_ok-open.was) (core g (goal.at.returns g c).After-open) in
+    record { opened = o; exactly = exactly m c.args.file.now (all_bytes c.args.file.now c.type_inv.file) _ _ _ o; same = c.open.ensures.same ∙ c.label.ensures.same }

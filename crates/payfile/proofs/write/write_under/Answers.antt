@@ -1,18 +1,18 @@
-use Rattle.std.proofs.Common.{◌≡◌, ℕ, ◌+◌, ◌<◌, false, ◌||◌, eqb, ltb, List, length, Ok, sym, refl, ap, ◌∙◌, arith, rules}
+use Rattle.std.proofs.Common.{◌≡◌, ℕ, ◌+◌, ◌<◌, false, ◌||◌, eqb, ltb, List, ◌++◌, length, drop, Ok, Err, sym, refl, ap, ◌∙◌, arith, rules}
+use Rattle.std.specs.Result.{is_ok}
 use Rattle.cipher.specs.Meaning.{Meaning}
-use Rattle.elmd.specs.Heading.{frame_of}
-use Rattle.elmd.specs.Refusals.{mark_number}
+use Rattle.elmd.specs.Envelope.{frame_under}
+use Rattle.elmd.specs.Refusals.{mark_number, mark_of}
 use Rattle.elmd.specs.Settings.{settings_answer}
 use Rattle.elmd.specs.Stream.{Frame, mark, stream}
 use Rattle.elmd.proofs.Counts.{marked_is}
-use Rattle.sealing.specs.Seal.{seal_answer}
 use Rattle.payfile.specs.Layout.{front_bytes, file_of, pay_file, label_answer}
-use Rattle.payfile.specs.Write.{Put}
-use Rattle.payfile.proofs.Puts.{then, put_as, ends_at, from_start}
-use Rattle.payfile.proofs.Files.{within, mark_number_lem, sizes, front_length, file_length, stream_small, seals, room_short, room_enough, after_ok}
+use Rattle.payfile.specs.declared.refusal.FileRefusal.{FileRefusal}
+use Rattle.payfile.proofs.Puts.{file_laid}
+use Rattle.payfile.proofs.Files.{within, mark_number_lem, sizes, front_length, file_length, stream_small, seals, room_short, room_enough, after_ok, sealed_whole}
 use Rattle.payfile.proofs.write.write_under.Given as given
 use Rattle.payfile.proofs.write.write_under.Goals as goal
-use Rattle.payfile.proofs.write.write_under.Goals.{In-Ok-stream_length, After-put_front-at}
+use Rattle.payfile.proofs.write.write_under.Goals.{In_ok-size, After-seal}
 
 -- what is known once the message's length is judged
 record Known (u : Frame) (m : List ℕ) (size : ℕ) : Type 0 where
@@ -23,18 +23,18 @@ record Known (u : Frame) (m : List ℕ) (size : ℕ) : Type 0 where
   small : size < 4294967296
   file_is : length (pay_file u m) ≡ 26 + length u.heading + size
 
-abbrev under : (g : given.Over) → goal.In-Ok-stream_length g → Frame
-under g c = frame_of (g.C.Cipher.meaning c.args.c.now) c.args.settings.now c.args.nonce.now c.args.heading.now
+abbrev under : (g : given.Over) → In_ok-size g → Frame
+under g c = frame_under (g.C.Cipher.meaning c.args.c.now) c.args.envelope.now
 
-known : (g : given.Over) (c : goal.In-Ok-stream_length g) → Known (under g c) c.args.message.now c.in-Ok-stream_length.size
+known : (g : given.Over) (c : In_ok-size g) → Known (under g c) c.args.message.now c.in_ok-size.size
 known g c =
     let u = under g c in
     let m = c.args.message.now in
-    let b = within _ _ _ c.in-Ok-stream_length.ensures.answer in
+    let b = within _ _ _ c.in_ok-size.ensures.answer in
     let n = sizes (length m) b in
-    let e = c.in-Ok-stream_length.ensures.exact u m c.in-Ok.ensures.value refl in
+    let e = c.in_ok-size.ensures.exact u m c.in_ok-chosen.ensures.value refl in
     let s = stream_small u m n.0 n.1 in
-    let a : Ok tt ≡ label_answer u.cipher.label u.settings = c.in-Ok.ensures.answer ∙ ap (λ (l : ℕ). label_answer l c.args.settings.now) c.label-label.ensures.value in
+    let a : Ok tt ≡ label_answer u.cipher.label u.settings = c.in_ok-chosen.ensures.answer ∙ ap (λ (l : ℕ). label_answer l u.settings) c.label.ensures.value in
     record {
       accepted = sym a;
       set = (after_ok _ _ a).0;
@@ -44,61 +44,50 @@ known g c =
       file_is = file_length u.nonce u.settings (mark m) u.heading (stream u m) (search rules) (search rules) ∙ ap (λ (k : ℕ). 26 + length u.heading + k) e;
     }
 
-front_size : (g : given.Over) (c : goal.After-put_front-at g) → c.put_front-at.result ≡ 26
-front_size g c = ends_at 26 c.put_front-at.ensures (front_length (length c.args.heading.now) c.in-Ok-stream_length.size (mark_number c.of_length-mark.result) c.args.nonce.now c.args.settings.now (search rules) (search rules))
+pub overflow_add-end : goal.overflow_add-end
+overflow_add-end g c = let k = known g c in let s = k.small in search rules
 
-pub overflow_add-heading-2 : goal.overflow_add-heading-2
-overflow_add-heading-2 g c = let k = known g (goal.at.overflow_add-heading-2 g c).In-Ok-stream_length in let s = k.small in search rules
-
-pub returns-then-out-heading : goal.returns-then-out-heading
-returns-then-out-heading g c =
-    let k = known g (goal.at.returns-then-out-heading g c).In-Ok-stream_length in
+pub returns-then-out-end-clause-answer : goal.returns-then-out-end-clause-answer
+returns-then-out-end-clause-answer g c =
+    let d = (goal.at.returns-then-out-end-clause-answer g c).In_ok-size in
+    let k = known g d in
     let f = k.file_is in
-    record { answer = sym (room_short (under g (goal.at.returns-then-out-heading g c).In-Ok-stream_length) c.args.message.now (length c.args.out.now) k.accepted k.sized (omega arith)); output = refl; same = c.label-label.ensures.same }
+    ap (λ (e : FileRefusal). Err e) c.into.ensures ∙ sym (room_short (under g d) c.args.message.now (length c.args.out.now) k.accepted k.sized (omega arith))
 
-pub put_front-at-requires : goal.put_front-at-requires
-put_front-at-requires g c = let k = known g (goal.at.put_front-at-requires g c).In-Ok-stream_length in let s = k.small in (omega arith, (omega arith, s))
+pub to_bytes-requires-clause-stream_small : goal.to_bytes-requires-clause-stream_small
+to_bytes-requires-clause-stream_small g c = (known g (goal.at.to_bytes-requires-clause-stream_small g c).In_ok-size).small
 
-pub put-at-requires : goal.put-at-requires
-put-at-requires g c = let f = front_size g (goal.at.put-at-requires g c).After-put_front-at in omega arith
+-- the stream is sealed, and fills its part
+whole : (g : given.Over) (c : After-seal g) → Known (frame_under (g.C.Cipher.meaning c.args.c.now) c.args.envelope.now) c.args.message.now c.in_ok-size.size
+    → (c.seal.result ≡ Ok (c.in_ok-size.size, mark_of (mark c.args.message.now))) × (c.seal.new.out ≡ stream (frame_under (g.C.Cipher.meaning c.args.c.now) c.args.envelope.now) c.args.message.now)
+whole g c k =
+    let u = frame_under (g.C.Cipher.meaning c.args.c.now) c.args.envelope.now in
+    sealed_whole u _ c.args.message.now _ c.seal.new.out (26 + length u.heading) c.in_ok-size.size c.seal.result c.seal.ensures.answer c.seal.ensures.output
+    (ap (λ (z : Meaning). frame_under z c.args.envelope.now) c.label.ensures.same) (search rules) (seals u c.args.message.now c.in_ok-size.size k.set c.requires k.sized k.stream_is) k.stream_is
 
-pub put_stream-requires : goal.put_stream-requires
-put_stream-requires g c =
-    let k = known g (goal.at.put_stream-requires g c).In-Ok-stream_length in
-    let f = front_size g (goal.at.put_stream-requires g c).After-put_front-at in
-    let e = c.put-at.ensures.ends in
-    let w = under g (goal.at.put_stream-requires g c).In-Ok-stream_length in
-    let same : frame_of (g.C.Cipher.meaning c.label-label.new.self) w.settings w.nonce w.heading ≡ w = ap (λ (z : Meaning). frame_of z w.settings w.nonce w.heading) c.label-label.ensures.same in (
-      omega arith,
-      (
-        ap (λ (v : Frame). seal_answer v c.args.message.now c.in-Ok-stream_length.size) same ∙ seals w c.args.message.now c.in-Ok-stream_length.size k.set c.requires k.sized k.stream_is,
-        ap (λ (v : Frame). length (stream v c.args.message.now)) same ∙ k.stream_is,
-      ),
-    )
+pub unwrap-requires : goal.unwrap-requires
+unwrap-requires g c = ap is_ok (whole g (goal.at.unwrap-requires g c).After-seal (known g (goal.at.unwrap-requires g c).In_ok-size)).0
 
-pub overflow_add-result : goal.overflow_add-result
-overflow_add-result g c =
-    let k = known g (goal.at.overflow_add-result g c).In-Ok-stream_length in
-    let f = front_size g (goal.at.overflow_add-result g c).After-put_front-at in
-    let e = c.put-at.ensures.ends in
-    let s = k.small in
-    search rules
+pub returns-clause-answer : goal.returns-clause-answer
+returns-clause-answer g c =
+    let d = (goal.at.returns-clause-answer g c).In_ok-size in
+    let k = known g d in
+    let f = k.file_is in
+    sym (room_enough (under g d) c.args.message.now (length c.args.out.now) _ k.accepted k.sized (omega arith) (omega arith))
 
-pub returns : goal.returns
+pub returns-clause-output : goal.returns-clause-output
 unfolding file_of
-returns g c =
-    let k = known g (goal.at.returns g c).In-Ok-stream_length in
-    let w = under g (goal.at.returns g c).In-Ok-stream_length in
+returns-clause-output g c =
+    let d = (goal.at.returns-clause-output g c).In_ok-size in
+    let u = under g d in
     let m = c.args.message.now in
-    let same : frame_of (g.C.Cipher.meaning c.label-label.new.self) w.settings w.nonce w.heading ≡ w = ap (λ (z : Meaning). frame_of z w.settings w.nonce w.heading) c.label-label.ensures.same in
-    let front : front_bytes (length w.heading) c.in-Ok-stream_length.size w.nonce w.settings (mark_number c.of_length-mark.result) ≡ front_bytes (length w.heading) (length (stream w m)) w.nonce w.settings (mark m) =
-    ap (λ (n : ℕ). front_bytes (length w.heading) n w.nonce w.settings (mark_number c.of_length-mark.result)) (sym k.stream_is) ∙ ap (λ (n : ℕ). front_bytes (length w.heading) (length (stream w m)) w.nonce w.settings n) (ap mark_number (marked_is m c.of_length-mark.result c.of_length-mark.ensures) ∙ mark_number_lem m) in
-    let all : Put c.args.out.now 0 (pay_file w m) (c.put-at.result + c.in-Ok-stream_length.size) c.put_stream.new.out =
-    then (put_as front c.put_front-at.ensures) (then c.put-at.ensures (put_as (ap (λ (v : Frame). stream v m) same) c.put_stream.ensures.put)) in
-    let r = from_start c.args.out.now (pay_file w m) c.put_stream.new.out _ all in
+    let k = known g d in
     let f = k.file_is in
-    record {
-      answer = sym (room_enough w m (length c.args.out.now) _ k.accepted k.sized (omega arith) r.0);
-      output = r.1;
-      same = c.put_stream.ensures.same ∙ c.label-label.ensures.same;
-    }
+    let S : ℕ = length (stream u m) in
+    let end : 26 + length u.heading + c.in_ok-size.size ≡ length (pay_file u m) = sym k.file_is in
+    let marked = ap mark_number (marked_is m c.of_length.result c.of_length.ensures) ∙ mark_number_lem m in
+    let front = c.copy_from_slice.ensures.after ∙ c.to_bytes.ensures ∙ ap (λ (n : ℕ). front_bytes (length u.heading) n u.nonce u.settings (mark_number c.of_length.result)) (sym k.stream_is)
+    ∙ ap (front_bytes (length u.heading) S u.nonce u.settings) marked in
+    file_laid c.args.out.now _ _ _ (front_bytes (length u.heading) S u.nonce u.settings (mark m)) u.heading (stream u m) _ _ front c.copy_from_slice-2.ensures.after (whole g (goal.at.returns-clause-output g c).After-seal k).1
+    (front_length (length u.heading) S (mark m) u.nonce u.settings (search rules) (search rules)) refl (omega arith) (omega arith)
+    ∙ ap (λ (n : ℕ). pay_file u m ++ drop n c.args.out.now) end
