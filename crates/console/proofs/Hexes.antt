@@ -1,8 +1,9 @@
 -- Digits of bytes, both ways.
-use Rattle.std.proofs.Common.{◌≡◌, ℕ, ◌+◌, ◌/◌, ◌%◌, ◌<◌, ◌≤◌, List, [], ◌∷◌, ◌++◌, length, get_or, take, drop, Some, None, Option, sym, refl, ap, ◌∙◌, append_assoc, arith}
+use Rattle.std.proofs.Common.{◌≡◌, ℕ, zero, suc, ◌+◌, ◌*◌, ◌/◌, ◌%◌, ◌<◌, ◌≤◌, List, [], ◌∷◌, ◌++◌, length, get_or, take, drop, Some, None, Option, sym, refl, ap, ◌∙◌, append_assoc, arith}
 use native.Mathlib.Nat.{div-add-mod}
 use Rattle.std.proofs.lemmas.List.{drop_more, drop_all, append-nil, take_more}
 use Rattle.std.proofs.lemmas.Bool.Decides.{nat_tests}
+use Rattle.std.specs.Simd.{first_chunks}
 use Rattle.console.specs.Hex.{digit_value, pair_value, before, from_hex, hex_digit, to_hex, HexBack}
 
 -- what was read, before what is still to be read
@@ -18,39 +19,47 @@ pub behind_one : (p : List ℕ) (b : ℕ) (o : Option (List ℕ)) → behind p (
 behind_one p b None = refl
 behind_one p b (Some q) = ap Some (sym (append_assoc p (b ∷ []) q))
 
-pub two_more : (xs : List ℕ) (i : ℕ) → i + 2 ≤ length xs → drop i xs ≡ get_or xs i 0 ∷ get_or xs (i + 1) 0 ∷ drop (i + 2) xs
-two_more xs i h =
-    let l : i < length xs = omega arith in
-    let m : i + 1 < length xs = omega arith in
-    let e : i + 1 + 1 ≡ i + 2 = omega arith in
-    let a = drop_more xs i 0 l in
-    let b = drop_more xs (i + 1) 0 m in
-    let f = ap (λ k. drop k xs) e in
-    cc
+-- the bytes of pairs of digits
+abbrev pub of_pairs : List (List ℕ) → Option (List ℕ)
+of_pairs [] = Some []
+of_pairs (p ∷ ps) = before (pair_value (digit_value (get_or p 0 0)) (digit_value (get_or p 1 0))) (of_pairs ps)
 
-pub hex_step : (p xs : List ℕ) (i b : ℕ) → i + 2 ≤ length xs
-    → Some b ≡ pair_value (digit_value (get_or xs i 0)) (digit_value (get_or xs (i + 1) 0))
-    → behind p (from_hex (drop i xs)) ≡ behind (p ++ b ∷ []) (from_hex (drop (i + 2) xs))
-hex_step p xs i b h e =
-    ap (λ l. behind p (from_hex l)) (two_more xs i h)
-    ∙ ap (λ o. behind p (before o (from_hex (drop (i + 2) xs)))) (sym e)
-    ∙ behind_one p b (from_hex (drop (i + 2) xs))
+pub from_hex_pairs : (k : ℕ) (xs : List ℕ) → length xs ≡ k * 2 → from_hex xs ≡ of_pairs (first_chunks 2 k xs)
+from_hex_pairs zero [] h = refl
+from_hex_pairs zero (x ∷ xs) h = absurd (omega arith)
+from_hex_pairs (suc k) [] h = absurd (omega arith)
+from_hex_pairs (suc k) (x ∷ []) h = absurd (omega arith)
+from_hex_pairs (suc k) (x ∷ y ∷ xs) h =
+    ap (before (pair_value (digit_value x) (digit_value y))) (from_hex_pairs k xs (omega arith))
 
-pub hex_bad : (p xs : List ℕ) (i : ℕ) → i + 2 ≤ length xs
-    → None ≡ pair_value (digit_value (get_or xs i 0)) (digit_value (get_or xs (i + 1) 0))
-    → None ≡ behind p (from_hex (drop i xs))
-hex_bad p xs i h e =
-    sym (ap (λ l. behind p (from_hex l)) (two_more xs i h)
-    ∙ ap (λ o. behind p (before o (from_hex (drop (i + 2) xs)))) (sym e))
+before_none : (o : Option ℕ) → before o None ≡ None
+before_none None = refl
+before_none (Some b) = refl
 
-pub hex_odd : (p xs : List ℕ) (i : ℕ) → i + 1 ≡ length xs → None ≡ behind p (from_hex (drop i xs))
-hex_odd p xs i h =
-    let l : i < length xs = omega arith in
-    let m : length xs ≤ i + 1 = omega arith in
-    sym (ap (λ q. behind p (from_hex q)) (drop_more xs i 0 l) ∙ ap (λ q. behind p (from_hex (get_or xs i 0 ∷ q))) (drop_all (i + 1) xs m))
+pub from_hex_odd : (xs : List ℕ) → length xs % 2 ≡ 1 → from_hex xs ≡ None
+from_hex_odd [] h = absurd (omega arith)
+from_hex_odd (x ∷ []) h = refl
+from_hex_odd (x ∷ y ∷ xs) h =
+    let p = pair_value (digit_value x) (digit_value y) in
+    ap (before p) (from_hex_odd xs (omega arith)) ∙ before_none p
 
-pub hex_end : (p xs : List ℕ) (i : ℕ) → length xs ≤ i → Some p ≡ behind p (from_hex (drop i xs))
-hex_end p xs i h = sym (ap (λ q. behind p (from_hex q)) (drop_all i xs h) ∙ ap Some (append-nil p))
+pub hex_step : (p : List ℕ) (ps : List (List ℕ)) (i b : ℕ) → i < length ps
+    → Some b ≡ pair_value (digit_value (get_or (get_or ps i []) 0 0)) (digit_value (get_or (get_or ps i []) 1 0))
+    → behind p (of_pairs (drop i ps)) ≡ behind (p ++ b ∷ []) (of_pairs (drop (i + 1) ps))
+hex_step p ps i b h e =
+    ap (λ l. behind p (of_pairs l)) (drop_more ps i [] h)
+    ∙ ap (λ o. behind p (before o (of_pairs (drop (i + 1) ps)))) (sym e)
+    ∙ behind_one p b (of_pairs (drop (i + 1) ps))
+
+pub hex_bad : (p : List ℕ) (ps : List (List ℕ)) (i : ℕ) → i < length ps
+    → None ≡ pair_value (digit_value (get_or (get_or ps i []) 0 0)) (digit_value (get_or (get_or ps i []) 1 0))
+    → None ≡ behind p (of_pairs (drop i ps))
+hex_bad p ps i h e =
+    sym (ap (λ l. behind p (of_pairs l)) (drop_more ps i [] h)
+    ∙ ap (λ o. behind p (before o (of_pairs (drop (i + 1) ps)))) (sym e))
+
+pub hex_end : (p : List ℕ) (ps : List (List ℕ)) (i : ℕ) → length ps ≤ i → Some p ≡ behind p (of_pairs (drop i ps))
+hex_end p ps i h = sym (ap (λ q. behind p (of_pairs q)) (drop_all i ps h) ∙ ap Some (append-nil p))
 
 pub digit_back : (n : ℕ) → n < 16 → digit_value (hex_digit n) ≡ Some n
 digit_back n h = grind (arith, nat_tests)

@@ -1,6 +1,7 @@
 mod Hexes
 mod Splits
-mod Joins
+mod Exits
+mod Asked
 mod Seals
 mod Texts
 mod Opens

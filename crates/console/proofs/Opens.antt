@@ -1,5 +1,5 @@
 -- What is shown of an opening whose room is as long as the stream.
-use Rattle.std.proofs.Common.{◌≡◌, ℕ, ◌-◌, ◌*◌, ◌<◌, ◌≤◌, List, length, take, Ok, Err, Result, refl, ap, ◌∙◌, ⊎_elim, arith}
+use Rattle.std.proofs.Common.{◌≡◌, ℕ, ◌*◌, ◌<◌, ◌≤◌, List, length, take, Ok, Err, Result, refl, ap, ◌∙◌, ⊎_elim, arith}
 use Rattle.std.proofs.lemmas.List.{take_at, length-append}
 use Rattle.std.proofs.lemmas.Bool.{cases_lt}
 use Rattle.elmd.specs.declared.refusal.Refusal.{Refusal}
@@ -8,7 +8,15 @@ use Rattle.elmd.specs.Stream.{Frame}
 use Rattle.elmd.specs.Opening.{blocks_of}
 use Rattle.elmd.specs.Laws.{MessageOf}
 use Rattle.opening.specs.Open.{NoSeal, front_answer, Opened, StreamOpened}
-use Rattle.console.specs.Replies.{bytes_line, refusal_line, OpenReply, open_line, Shown}
+use Rattle.console.specs.Replies.{bytes_line, refusal_line, OpenReply}
+
+-- what is shown of an opening into a room
+abbrev pub open_line : Result ℕ Refusal → (place : List ℕ) → List ℕ
+open_line (Ok n) place = bytes_line 77 (take n place)
+open_line (Err e) place = refusal_line (number e)
+
+abbrev pub Shown : Frame → (mark : ℕ) → (s room out : List ℕ) → Type 0
+Shown u k s room out = (r : Result ℕ Refusal) × (place : List ℕ) × Opened u s k room r place × (out ≡ open_line r place)
 
 pub room_fits : (u : Frame) (S : ℕ) → 16 * blocks_of u S ≤ S
 unfolding blocks_of
@@ -66,9 +74,3 @@ ok_within u s room place k n same o =
     (λ far. absurd (no_answer u s room place k n (front_answer u) refl same (omega arith) o))
     (λ h. h)
     (cases_lt (length place) n)
-
--- and what is printed of them
-pub ok_shown : (u : Frame) (s room place : List ℕ) (k n : ℕ) → Opened u s k room (Ok n) place
-    → Shown u k s room (bytes_line 77 (take (n - 0) place))
-ok_shown u s room place k n o =
-    let z : n - 0 ≡ n = omega arith in (Ok n, place, o, ap (λ i. bytes_line 77 (take i place)) z)

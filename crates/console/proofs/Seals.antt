@@ -1,5 +1,5 @@
 -- What is printed of a seal's answer.
-use Rattle.std.proofs.Common.{◌≡◌, ℕ, pred, ◌-◌, ◌≤◌, Bool, true, false, cond, ◌||◌, eqb, ltb, List, length, take, drop, Ok, Err, sym, refl, ap, ◌∙◌, div-le_self, arith}
+use Rattle.std.proofs.Common.{◌≡◌, ℕ, pred, ◌≤◌, Bool, true, false, cond, ◌||◌, eqb, ltb, List, length, take, drop, Ok, Err, sym, refl, ap, ◌∙◌, div-le_self, arith}
 use Rattle.std.proofs.lemmas.List.{take_at}
 use Rattle.std.proofs.lemmas.Bool.{eqb-false, or_parts, le-ltb}
 use Rattle.std.proofs.lemmas.Bool.Decides.{nat_tests}
@@ -11,18 +11,17 @@ use Rattle.elmd.specs.Heading.{add_answer}
 use Rattle.elmd.specs.Stream.{Frame, t_of, blocks, last_size, mark, stream}
 use Rattle.elmd.proofs.Lengths.{stream_length, size_range, l_pos, last_pos, last_le}
 use Rattle.sealing.specs.Seal.{seal_answer, sealed}
-use Rattle.console.specs.Replies.{stream_line, seal_line}
+use Rattle.console.specs.Replies.{stream_line, seal_line, seal_reply}
 
 pub ok_size : (u : Frame) (m : List ℕ) (room n : ℕ) (k : Mark) → Ok (n, k) ≡ seal_answer u m room → n ≡ length (stream u m)
 ok_size u m room n k e = grind (arith, nat_tests)
 
-pub seal_line_lem : (u : Frame) (m room after : List ℕ) (n : ℕ) (k : Mark)
+pub stream_shown : (u : Frame) (m room after : List ℕ) (n : ℕ) (k : Mark)
     → Ok (n, k) ≡ seal_answer u m (length room) → after ≡ sealed u m room (Ok (n, k))
-    → stream_line (mark_number k) (take (n - 0) after) ≡ seal_line u m (seal_answer u m (length room))
-seal_line_lem u m room after n k e f =
-    let z : n - 0 ≡ n = omega arith in
+    → stream_line (mark_number k) (take n after) ≡ seal_line u m (seal_answer u m (length room))
+stream_shown u m room after n k e f =
     ap (λ s. stream_line (mark_number k) s)
-    (ap (λ i. take i after) z ∙ ap (take n) f ∙ take_at (stream u m) (drop (length (stream u m)) room) n (sym (ok_size u m (length room) n k e)))
+    (ap (take n) f ∙ take_at (stream u m) (drop (length (stream u m)) room) n (sym (ok_size u m (length room) n k e)))
     ∙ ap (seal_line u m) e
 
 -- at most a check or the tag stands behind each of 256 blocks
@@ -49,3 +48,6 @@ room_enough u m few =
     let a = le-ltb 8192 (length (stream u m)) short in
     let b = le-ltb (length (stream u m)) (length (stream u m)) (omega arith) in
     ap (λ c. cond c (Err OutputShort) (Ok (length (stream u m), mark_of (mark m)))) (a ∙ sym b)))
+
+pub seal_reply_at : (u : Frame) (m : List ℕ) (n : ℕ) → n ≡ 8192 → length m ≤ 4096 → seal_line u m (seal_answer u m n) ≡ seal_reply u m
+seal_reply_at u m n h few = ap (seal_line u m) (ap (seal_answer u m) h ∙ room_enough u m few)

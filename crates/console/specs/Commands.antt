@@ -1,8 +1,10 @@
 -- A line as a command: a letter, a space, and digits or a dash, which stands for no bytes.
-use Rattle.std.specs.Prelude.{ℕ, ◌≤◌, cond, ◌&&◌, List, [], ◌∷◌, length, Some, None, vec_items, Option, ◌==◌, nat_le, slice_index}
+use Rattle.std.specs.Prelude.{ℕ, ◌≤◌, cond, ◌&&◌, List, [], ◌∷◌, length, Some, None, Ok, Err, vec_items, Option, Result, ◌==◌, nat_le, slice_index}
 use Rattle.elmd.specs.Refusals.{mark_number}
 use Rattle.console.specs.declared.line.Line.{Line}
-use Rattle.console.specs.declared.line.Line.TheVariants.{Key, Nonce, Settings, Heading, Message, Block, Stream, Unknown, Malformed}
+use Rattle.console.specs.declared.line.Line.TheVariants.{Key, Nonce, Settings, Heading, Message, Block, Stream}
+use Rattle.console.specs.declared.line.LineFault.{LineFault}
+use Rattle.console.specs.declared.line.LineFault.TheVariants.{UnknownLetter, Malformed}
 use Rattle.console.specs.Hex.{from_hex}
 
 pub data Command : Type 0 where
@@ -78,5 +80,9 @@ command_of (Heading b) = heading (vec_items b)
 command_of (Message b) = message (vec_items b)
 command_of (Block b) = block b
 command_of (Stream m b) = stream (mark_number m) (vec_items b)
-command_of Unknown = unknown
-command_of Malformed = malformed
+
+-- and of what it read
+abbrev pub command_read : Result Line LineFault → Command
+command_read (Ok line) = command_of line
+command_read (Err UnknownLetter) = unknown
+command_read (Err Malformed) = malformed

@@ -1,20 +1,24 @@
 -- The reply to a command, from what earlier lines gave.
-use Rattle.std.specs.Prelude.{◌≡◌, ℕ, ◌+◌, ◌/◌, ◌%◌, cond, List, [], ◌∷◌, ◌++◌, length, take, Some, None, Ok, Err, Option, Result, ◌==◌, slice_index}
+use Rattle.std.specs.Prelude.{◌≡◌, ℕ, ◌+◌, ◌/◌, ◌%◌, List, [], ◌∷◌, ◌++◌, length, Some, None, Ok, Err, Option, Result, slice_index}
 use Rattle.block.specs.Bytes.{of_bytes, bytes_of}
-use Rattle.cipher.specs.Meaning.{Meaning, paper}
-use Rattle.speck.specs.Speck.{speck}
-use Rattle.aes.specs.Fips197.{aes10, aes6}
+use Rattle.cipher.specs.Meaning.{Meaning}
+use Rattle.labelled.specs.Labels.{cipher_of}
 use Rattle.elmd.specs.declared.refusal.Refusal.{Refusal}
 use Rattle.elmd.specs.declared.refusal.Mark.{Mark}
 use Rattle.elmd.specs.Refusals.{number, mark_number}
 use Rattle.elmd.specs.Stream.{Frame, stream as streamOf}
 use Rattle.elmd.specs.Heading.{frame_of}
-use Rattle.elmd.specs.declared.refusal.Refusal.TheVariants.{StreamLength}
+use Rattle.elmd.specs.declared.refusal.Refusal.TheVariants.{OtherLabel, StreamLength}
 use Rattle.elmd.specs.Laws.{MessageOf}
 use Rattle.sealing.specs.Seal.{seal_answer}
-use Rattle.opening.specs.Open.{SealOf, NoSeal, front_answer, Opened}
+use Rattle.opening.specs.Open.{SealOf, NoSeal, front_answer}
 use Rattle.console.specs.Hex.{to_hex}
 use Rattle.console.specs.Commands.{Command, key, nonce, settings, heading, message, block, stream, unknown, malformed, read_line}
+use Rattle.console.specs.declared.line.LineFault.TheVariants.{UnknownLetter, Malformed}
+use Rattle.console.specs.declared.fault.Fault.TheVariants.{Line, NotGiven, Refused}
+use Rattle.console.specs.declared.fault.Failure.{Failure}
+use Rattle.console.specs.declared.fault.Failure.TheVariants.{Fault, Memory}
+use Rattle.console.specs.Faults.{fault_number}
 use Rattle.console.specs.Known.{Known, after}
 
 -- R, a space and the number, which always has two digits
@@ -28,14 +32,6 @@ bytes_line letter b = (letter ∷ 32 ∷ []) ++ (to_hex b ++ 10 ∷ [])
 -- S, a space, the mark, a space and the digits of the stream
 abbrev pub stream_line : (mark : ℕ) → List ℕ → List ℕ
 stream_line m b = (83 ∷ 32 ∷ (48 + m) ∷ 32 ∷ []) ++ (to_hex b ++ 10 ∷ [])
-
--- the cipher that a label picks
-abbrev pub cipher_of : (label key : ℕ) → Option Meaning
-cipher_of label k =
-    cond (label == 10) (Some (aes10 k))
-    (cond (label == 6) (Some (aes6 k))
-    (cond (label == 32) (Some (speck k))
-    (cond (label == 255) (Some (paper k)) None)))
 
 -- B: E of the block
 abbrev pub block_reply : Meaning → List ℕ → List ℕ
@@ -52,11 +48,11 @@ seal_reply u m = seal_line u m (seal_answer u m (length (streamOf u m)))
 
 -- what has to be given, and a cipher that the settings name
 abbrev pub given : Option (List ℕ) → (List ℕ → List ℕ) → List ℕ
-given None f = refusal_line 93
+given None f = refusal_line (fault_number NotGiven)
 given (Some x) f = f x
 
 abbrev pub picked : Option Meaning → (Meaning → List ℕ) → List ℕ
-picked None f = refusal_line 11
+picked None f = refusal_line (fault_number (Refused OtherLabel))
 picked (Some c) f = f c
 
 abbrev pub under : (settings key : List ℕ) → (Meaning → List ℕ) → List ℕ
@@ -72,11 +68,11 @@ message_answer g m =
 
 -- the same of a relation
 abbrev pub WhereGiven : Option (List ℕ) → (out : List ℕ) → (List ℕ → Type 0) → Type 0
-WhereGiven None out P = out ≡ refusal_line 93
+WhereGiven None out P = out ≡ refusal_line (fault_number NotGiven)
 WhereGiven (Some x) out P = P x
 
 abbrev pub WherePicked : Option Meaning → (out : List ℕ) → (Meaning → Type 0) → Type 0
-WherePicked None out P = out ≡ refusal_line 11
+WherePicked None out P = out ≡ refusal_line (fault_number (Refused OtherLabel))
 WherePicked (Some c) out P = P c
 
 -- S: the message of which this is the stream and mark; else the refusal of the settings or the heading, of a length that no
@@ -87,14 +83,6 @@ pub record OpenReply (u : Frame) (mark : ℕ) (s out : List ℕ) : Type 0 where
   pub opens : front_answer u ≡ Ok tt → (m : List ℕ) → SealOf u s mark m → out ≡ bytes_line 77 m
   pub refuses : front_answer u ≡ Ok tt → (m : List ℕ) → MessageOf u (length s) mark m → ((n : List ℕ) → SealOf u s mark n → ⊥)
       → (e : Refusal) × NoSeal u s mark (Err e) × (out ≡ refusal_line (number e))
-
--- what is shown of an opening into a room
-abbrev pub open_line : Result ℕ Refusal → (place : List ℕ) → List ℕ
-open_line (Ok n) place = bytes_line 77 (take n place)
-open_line (Err e) place = refusal_line (number e)
-
-abbrev pub Shown : Frame → (mark : ℕ) → (s room out : List ℕ) → Type 0
-Shown u k s room out = (r : Result ℕ Refusal) × (place : List ℕ) × Opened u s k room r place × (out ≡ open_line r place)
 
 abbrev pub StreamAnswer : Known → (mark : ℕ) → (s out : List ℕ) → Type 0
 StreamAnswer g k s out =
@@ -110,8 +98,8 @@ Reply g (heading b) out = out ≡ []
 Reply g (message m) out = out ≡ message_answer g m
 Reply g (block b) out = out ≡ block_answer g b
 Reply g (stream k s) out = StreamAnswer g k s out
-Reply g unknown out = out ≡ refusal_line 91
-Reply g malformed out = out ≡ refusal_line 92
+Reply g unknown out = out ≡ refusal_line (fault_number (Line UnknownLetter))
+Reply g malformed out = out ≡ refusal_line (fault_number (Line Malformed))
 
 -- what is printed for lines: each reply, from what the lines before gave
 abbrev pub Replies : Known → List (List ℕ) → (out : List ℕ) → Type 0
@@ -122,3 +110,10 @@ Replies g (l ∷ ls) out =
 -- something is written behind what stands there
 abbrev pub Adds : (before after : List ℕ) → (List ℕ → Type 0) → Type 0
 Adds old new P = (more : List ℕ) × (new ≡ old ++ more) × P more
+
+-- P holds of what was written behind `old`, and Q besides; or of the fault that is still to be printed, and then nothing was
+-- written. Where memory ran out nothing is said
+abbrev pub Gives : Result Unit Failure → (old new : List ℕ) → (List ℕ → Type 0) → Type 0 → Type 0
+Gives (Ok u) old new P Q = Adds old new P × Q
+Gives (Err (Fault f)) old new P Q = (new ≡ old) × P (refusal_line (fault_number f)) × Q
+Gives (Err (Memory e)) old new P Q = Unit {0}

@@ -5,6 +5,7 @@ ghost use Rattle.console.specs.Hex.{digit_value, pair_value, from_hex, hex_digit
 
 use std::alloc::{AllocError, Global};
 
+// The format has lower case alone, which `char::to_digit` does not tell apart.
 fn digit(c: u8) -> Option<u8>
     ensures { result ≡ digit_value c }
 {
@@ -18,32 +19,28 @@ fn digit(c: u8) -> Option<u8>
 fn pair(high: u8, low: u8) -> Option<u8>
     ensures { result ≡ pair_value (digit_value high) (digit_value low) }
 {
-    match (digit(high), digit(low)) {
-        (Some(h), Some(l)) => Some(16 * h + l),
-        _ => None,
-    }
+    Some(16 * digit(high)? + digit(low)?)
 }
 
 // The bytes that lower-case digits stand for, two digits to a byte.
 pub fn from_hex(heap: Global, text: &[u8]) -> Result<Option<Vec<u8>>, AllocError>
     ensures { IfOk result (λ o. option_map vec_items o ≡ from_hex text.now) }
 {
-    let n = text.len();
+    let (pairs, odd) = text.as_chunks::<2>();
+    if !odd.is_empty() {
+        return Ok(None);
+    }
     let mut bytes = Vec::new(heap);
-    let mut at = 0;
-    while n - at >= 2 {
-        let Some(b) = pair(text[at], text[at + 1]) else {
+    for [high, low] in pairs {
+        let Some(b) = pair(*high, *low) else {
             return Ok(None);
         };
         bytes.push(b)?;
-        at += 2;
-    }
-    if at < n {
-        return Ok(None);
     }
     Ok(Some(bytes))
 }
 
+// Bytes and no chars: `char::from_digit` gives an Option of a char, which would have to be turned back.
 fn digit_of(n: u8) -> u8
     requires { n < 16 }
     ensures { result ≡ hex_digit n }

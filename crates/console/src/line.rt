@@ -10,7 +10,11 @@ pub enum Line {
     Message(Vec<u8>),
     Block([u8; 16]),
     Stream(Mark, Vec<u8>),
-    // no letter that is known; a known letter, and not what belongs behind it
-    Unknown,
+}
+
+// Why a text is no line: no letter that is known; or a known letter, and not what belongs behind it.
+#[derive(Clone, Copy, PartialEq, Eq, Debug)]
+pub enum LineFault {
+    UnknownLetter,
     Malformed,
 }

@@ -1,207 +1,77 @@
-// Reads lines: where one ends, and what it says.
-ghost use Rattle.std.specs.Prelude.{◌≡◌, ◌+◌, ◌-◌, ◌<◌, ◌≤◌, ◌&&◌, ◌∷◌, length, drop, IfOk, vec_items, ◌==◌, slice_index, slice_range};
-ghost use Rattle.std.specs.Option.{option_map};
-ghost use Rattle.elmd.specs.Refusals.{mark_number};
-ghost use Rattle.console.specs.Lines.{lines_of};
-ghost use Rattle.console.specs.Commands.{Command, bytes_in, field, sized, told, marked_command, stream_command, read_line, command_of};
-ghost use Rattle.console.specs.Commands.{key, nonce, settings, heading, message, block, stream};
+// Reads what a line says.
+ghost use Rattle.std.specs.Prelude.{◌≡◌, IfOk, vec_items, option_map, ok_or};
+ghost use Rattle.console.specs.Commands.{bytes_in, field, sized, stream_command, read_line, command_read};
+ghost use Rattle.console.specs.declared.line.LineFault.TheVariants.{Malformed};
 
 use crate::hex::from_hex;
-use crate::line::Line;
+use crate::line::{Line, LineFault};
 use elmd::refusal::Mark;
 use std::alloc::{AllocError, Global};
 
 const MESSAGE_MOST: usize = 4096;
 
-// Where the line that begins at `start` ends.
-pub(crate) fn line_end(text: &[u8], start: usize) -> usize
-    ensures within { start ≤ length text.now → (start ≤ result) × (result ≤ length text.now) }
-    ensures splits { start < length text.now → lines_of (drop start text.now) ≡ slice_range text.now start result ∷ lines_of (drop (result + 1) text.now) }
-{
-    let mut end = start;
-    while end < text.len() {
-        if text[end] == b'\n' {
-            return end;
-        }
-        end += 1;
-    }
-    end
-}
-
-// Where the line behind one that ends at `end` begins.
-pub(crate) fn next_start(text: &[u8], end: usize) -> usize
-    ensures value { (end < length text.now → result ≡ end + 1) × (length text.now ≤ end → result ≡ end) }
-    ensures within { end ≤ length text.now → result ≤ length text.now }
-    ensures rest { drop result text.now ≡ drop (end + 1) text.now }
-{
-    if end < text.len() { end + 1 } else { end }
-}
-
-fn is_dash(text: &[u8]) -> bool
-    ensures { result ≡ (length text.now == 1 && slice_index text.now 0 == 45) }
-{
-    text.len() == 1 && text[0] == b'-'
-}
-
+// Digits, or a dash for no bytes.
 fn bytes_in(heap: Global, digits: &[u8]) -> Result<Option<Vec<u8>>, AllocError>
     ensures { IfOk result (λ o. option_map vec_items o ≡ bytes_in digits.now) }
 {
-    if digits.len() == 0 {
-        return Ok(None);
+    match digits {
+        [] => Ok(None),
+        [b'-'] => Ok(Some(Vec::new(heap))),
+        _ => from_hex(heap, digits),
     }
-    if is_dash(digits) {
-        return Ok(Some(Vec::new(heap)));
-    }
-    from_hex(heap, digits)
 }
 
 // One space, and digits or a dash.
-fn field_bytes(heap: Global, rest: &[u8]) -> Result<Option<Vec<u8>>, AllocError>
+fn field(heap: Global, rest: &[u8]) -> Result<Option<Vec<u8>>, AllocError>
     ensures { IfOk result (λ o. option_map vec_items o ≡ field rest.now) }
 {
-    let Some((first, digits)) = rest.split_first() else {
-        return Ok(None);
-    };
-    match *first {
-        b' ' => bytes_in(heap, digits),
+    match rest {
+        [b' ', digits @ ..] => bytes_in(heap, digits),
         _ => Ok(None),
     }
 }
 
-fn sixteen(bytes: Option<Vec<u8>>) -> Option<[u8; 16]>
-    ensures { result ≡ sized 16 16 (option_map vec_items bytes) }
+fn array<const N: usize>(bytes: Option<Vec<u8>>) -> Option<[u8; N]>
+    ensures { result ≡ sized N N (option_map vec_items bytes) }
 {
-    let Some(v) = bytes else {
-        return None;
+    bytes?.as_slice().as_array().copied()
+}
+
+fn message(bytes: Option<Vec<u8>>) -> Option<Vec<u8>>
+    ensures { option_map vec_items result ≡ sized 1 4096 (option_map vec_items bytes) }
+{
+    bytes.filter(|m| !m.is_empty() && m.len() <= MESSAGE_MOST)
+}
+
+// One space, the mark, and the stream as a field.
+fn stream(heap: Global, rest: &[u8]) -> Result<Option<Line>, AllocError>
+    ensures { IfOk result (λ o. command_read (ok_or o Malformed) ≡ stream_command rest.now) }
+{
+    // Both digits are spelled out, as the letters are: the bench matches literals.
+    let (mark, digits) = match rest {
+        [b' ', b'0', digits @ ..] => (Mark::Filled, digits),
+        [b' ', b'1', digits @ ..] => (Mark::Whole, digits),
+        _ => return Ok(None),
     };
-    if v.len() != 16 {
-        return None;
-    }
-    let mut array = [0u8; 16];
-    array.copy_from_slice(v.as_slice());
-    Some(array)
-}
-
-fn eight(bytes: Option<Vec<u8>>) -> Option<[u8; 8]>
-    ensures { result ≡ sized 8 8 (option_map vec_items bytes) }
-{
-    let Some(v) = bytes else {
-        return None;
-    };
-    if v.len() != 8 {
-        return None;
-    }
-    let mut array = [0u8; 8];
-    array.copy_from_slice(v.as_slice());
-    Some(array)
-}
-
-fn key_line(bytes: Option<Vec<u8>>) -> Line
-    ensures { command_of result ≡ told key (sized 16 16 (option_map vec_items bytes)) }
-{
-    match sixteen(bytes) {
-        Some(b) => Line::Key(b),
-        None => Line::Malformed,
-    }
-}
-
-fn nonce_line(bytes: Option<Vec<u8>>) -> Line
-    ensures { command_of result ≡ told nonce (sized 8 8 (option_map vec_items bytes)) }
-{
-    match eight(bytes) {
-        Some(b) => Line::Nonce(b),
-        None => Line::Malformed,
-    }
-}
-
-fn settings_line(bytes: Option<Vec<u8>>) -> Line
-    ensures { command_of result ≡ told settings (sized 8 8 (option_map vec_items bytes)) }
-{
-    match eight(bytes) {
-        Some(b) => Line::Settings(b),
-        None => Line::Malformed,
-    }
-}
-
-fn heading_line(bytes: Option<Vec<u8>>) -> Line
-    ensures { command_of result ≡ told heading (option_map vec_items bytes) }
-{
-    match bytes {
-        Some(v) => Line::Heading(v),
-        None => Line::Malformed,
-    }
-}
-
-fn message_line(bytes: Option<Vec<u8>>) -> Line
-    ensures { command_of result ≡ told message (sized 1 4096 (option_map vec_items bytes)) }
-{
-    let Some(v) = bytes else {
-        return Line::Malformed;
-    };
-    if v.len() == 0 || v.len() > MESSAGE_MOST {
-        return Line::Malformed;
-    }
-    Line::Message(v)
-}
-
-fn block_line(bytes: Option<Vec<u8>>) -> Line
-    ensures { command_of result ≡ told block (sized 16 16 (option_map vec_items bytes)) }
-{
-    match sixteen(bytes) {
-        Some(b) => Line::Block(b),
-        None => Line::Malformed,
-    }
-}
-
-fn sealed_line(mark: Mark, bytes: Option<Vec<u8>>) -> Line
-    ensures { command_of result ≡ told (stream (mark_number mark)) (option_map vec_items bytes) }
-{
-    match bytes {
-        Some(v) => Line::Stream(mark, v),
-        None => Line::Malformed,
-    }
-}
-
-fn marked_line(heap: Global, rest: &[u8]) -> Result<Line, AllocError>
-    ensures { IfOk result (λ l. command_of l ≡ marked_command rest.now) }
-{
-    let Some((mark, digits)) = rest.split_first() else {
-        return Ok(Line::Malformed);
-    };
-    match *mark {
-        b'0' => Ok(sealed_line(Mark::Filled, field_bytes(heap, digits)?)),
-        b'1' => Ok(sealed_line(Mark::Whole, field_bytes(heap, digits)?)),
-        _ => Ok(Line::Malformed),
-    }
-}
-
-fn stream_line(heap: Global, rest: &[u8]) -> Result<Line, AllocError>
-    ensures { IfOk result (λ l. command_of l ≡ stream_command rest.now) }
-{
-    let Some((first, more)) = rest.split_first() else {
-        return Ok(Line::Malformed);
-    };
-    match *first {
-        b' ' => marked_line(heap, more),
-        _ => Ok(Line::Malformed),
-    }
+    Ok(field(heap, digits)?.map(|stream| Line::Stream(mark, stream)))
 }
 
 // What a line says.
-pub fn read_line(heap: Global, line: &[u8]) -> Result<Line, AllocError>
-    ensures { IfOk result (λ l. command_of l ≡ read_line line.now) }
+pub fn read_line(heap: Global, line: &[u8]) -> Result<Result<Line, LineFault>, AllocError>
+    ensures { IfOk result (λ r. command_read r ≡ read_line line.now) }
 {
     let Some((letter, rest)) = line.split_first() else {
-        return Ok(Line::Unknown);
+        return Ok(Err(LineFault::UnknownLetter));
     };
-    match *letter {
-        b'K' => Ok(key_line(field_bytes(heap, rest)?)),
-        b'N' => Ok(nonce_line(field_bytes(heap, rest)?)),
-        b'P' => Ok(settings_line(field_bytes(heap, rest)?)),
-        b'H' => Ok(heading_line(field_bytes(heap, rest)?)),
-        b'M' => Ok(message_line(field_bytes(heap, rest)?)),
-        b'B' => Ok(block_line(field_bytes(heap, rest)?)),
-        b'S' => stream_line(heap, rest),
-        _ => Ok(Line::Unknown),
-    }
+    let line = match *letter {
+        b'K' => array(field(heap, rest)?).map(Line::Key),
+        b'N' => array(field(heap, rest)?).map(Line::Nonce),
+        b'P' => array(field(heap, rest)?).map(Line::Settings),
+        b'H' => field(heap, rest)?.map(Line::Heading),
+        b'M' => message(field(heap, rest)?).map(Line::Message),
+        b'B' => array(field(heap, rest)?).map(Line::Block),
+        b'S' => stream(heap, rest)?,
+        _ => return Ok(Err(LineFault::UnknownLetter)),
+    };
+    Ok(line.ok_or(LineFault::Malformed))
 }

@@ -1,11 +1,13 @@
 -- A cipher over many blocks.
-use Rattle.std.specs.Prelude.{◌≡◌, ℕ, zero, suc, ◌*◌, ◌/◌, ◌<◌, ◌≤◌, Bool, true, false, cond, List, [], ◌++◌, length, take, drop, replicate, Ok, Err, Result, ◌==◌, ◌≢◌}
+use Rattle.std.specs.Prelude.{◌≡◌, ℕ, zero, suc, ◌*◌, ◌/◌, ◌<◌, ◌≤◌, Bool, true, false, cond, List, [], ◌++◌, length, take, drop, replicate, None, Option, Ok, Err, Result, ◌==◌, ◌≢◌}
+use Rattle.std.specs.Option.{option_map, unwrap_or}
 use Rattle.elmd.specs.declared.refusal.Refusal.{Refusal}
 use Rattle.elmd.specs.declared.refusal.Mark.{Mark}
 use Rattle.block.specs.Bytes.{bytes_of, of_bytes, padded}
 use Rattle.cipher.specs.Meaning.{Meaning}
 use Rattle.aes.specs.Fips197.{aes10, aes6}
 use Rattle.speck.specs.Speck.{speck}
+use Rattle.labelled.specs.Labels.{cipher_of}
 use Rattle.elmd.specs.Opening.{block_in}
 use Rattle.elmd.specs.Stream.{Frame}
 use Rattle.elmd.specs.Heading.{frame_of}
@@ -34,9 +36,13 @@ key_of key = of_bytes (padded (take 16 (drop 0 key)))
 abbrev pub eight_of : List ℕ → List ℕ
 eight_of s = cond (length s == 8) s (replicate 8 0)
 
--- by the label: AES-10, AES-6, Speck128/128; what an unknown one gives
+-- the cipher that a label names, but for the paper cipher
+abbrev pub cipher_named : (label key : ℕ) → Option Meaning
+cipher_named label key = cond (label == 255) None (cipher_of label key)
+
+-- by the label; what an unknown one gives
 abbrev pub chosen : {A : Type 0} → (label key : ℕ) → (Meaning → A) → A → A
-chosen label key f none = cond (label == 10) (f (aes10 key)) (cond (label == 6) (f (aes6 key)) (cond (label == 32) (f (speck key)) none))
+chosen label key f none = unwrap_or (option_map f (cipher_named label key)) none
 
 abbrev pub all_blocks : Meaning → Bool → List ℕ → List ℕ
 all_blocks m forth xs = each_block (turned m forth) xs (length xs / 16) ++ drop (16 * (length xs / 16)) xs

@@ -10,29 +10,15 @@ use std::fs;
 fn first_difference(a: &[u8], b: &[u8]) -> Option<usize>
     ensures { MatchOption result (a.now ≡ b.now) (λ _. a.now ≢ b.now) }
 {
-    let mut line = 0;
-    for i in 0..a.len() {
-        if i >= b.len() || a[i] != b[i] {
-            return Some(line);
-        }
-        if a[i] == b'\n' {
-            line += 1;
-        }
+    if a == b {
+        return None;
     }
-    if a.len() < b.len() {
-        return Some(line);
-    }
-    None
+    let same = a.iter().zip(b).take_while(|(x, y)| x == y);
+    Some(same.filter(|(c, _)| **c == b'\n').count())
 }
 
 fn count_lines(text: &[u8]) -> usize {
-    let mut count = 0;
-    for c in text {
-        if *c == b'\n' {
-            count += 1;
-        }
-    }
-    count
+    text.iter().filter(|c| **c == b'\n').count()
 }
 
 fn compare(rt: &HostRuntime, name: &str) -> anyhow::Result<()> {
@@ -47,14 +33,9 @@ fn compare(rt: &HostRuntime, name: &str) -> anyhow::Result<()> {
     Ok(())
 }
 
-fn run(rt: &HostRuntime) -> anyhow::Result<()> {
-    compare(rt, "published")?;
-    compare(rt, "refusals")?;
-    compare(rt, "aes")?;
-    compare(rt, "speck")?;
-    compare(rt, "long")
-}
-
 fn main(rt: HostRuntime) -> anyhow::Result<()> {
-    run(&rt)
+    for name in ["published", "refusals", "aes", "speck", "long"] {
+        compare(&rt, name)?;
+    }
+    Ok(())
 }

@@ -1,25 +1,31 @@
-use Rattle.std.proofs.Common.{◌-◌, take, drop, vec_items, sym, subst, arith}
-use Rattle.console.specs.Commands.{command_of, Sized}
-use Rattle.console.specs.Known.{known_of}
-use Rattle.console.proofs.Sizes.{read_sized}
-use Rattle.console.proofs.Texts.{goes_step, goes_end}
+use Rattle.std.proofs.Common.{◌≡◌, ◌∷◌, eqb, vec_items, sym, ap, ◌∙◌, rules}
+use Rattle.std.specs.Slice.Iter.{split_inclusive_rest}
+use Rattle.std.proofs.lemmas.Fn.{always_returns_same}
+use Rattle.console.specs.Known.{known_of, nothing}
+use Rattle.console.specs.Lines.{lines_of}
+use Rattle.console.proofs.Splits.{first_part}
+use Rattle.console.proofs.Texts.{goes_start, goes_step, goes_end}
 use Rattle.console.proofs.answers.Goals as goal
 
-pub answer-requires : goal.answer-requires
-answer-requires c =
-    subst Sized (sym c.in_ok-line.ensures)
-    (read_sized (take (c.line_end-end.result - c.loop-at.at) (drop c.loop-at.at c.args.text.now)))
+pub loop-part-init : goal.loop-part-init
+loop-part-init c =
+    let none : known_of c.default-given.result ≡ nothing = cc in
+    goes_start c.args.text.now _ _ _ none
+    (ap split_inclusive_rest c.into_iter-part-iterator.ensures.into_iter_gives ∙ c.split_inclusive-part-items.ensures.rest) c.new-out.ensures.items
 
-pub loop-at-preserved : goal.loop-at-preserved
-loop-at-preserved c = (
-  c.next_start-at.ensures.within (c.line_end-end.ensures.within (omega arith)).1,
-  goes_step c.args.text.now c.loop-at.at c.line_end-end.result c.next_start-at.result
-      (known_of c.loop-at.given) (known_of c.take.new.self) (command_of c.in_ok-line.line)
-      (vec_items c.loop-at.out) (vec_items c.answer.new.out)
-      (c.line_end-end.ensures.splits (omega arith)) c.next_start-at.ensures.rest c.in_ok-line.ensures c.take.ensures
-      c.in_ok-answer.ensures
-      c.loop-at.invariant.1,
-)
+pub loop-part-preserved : goal.loop-part-preserved
+loop-part-preserved c =
+    let s = c.in-Some.ensures.steps in
+    let first = s.1.2 (λ b. eqb b 10) (always_returns_same _ _ _ (λ a r q k. search rules)) in
+    let rest = split_inclusive_rest c.loop-part.part-iterator in
+    let behind = split_inclusive_rest c.next.new.self in
+    let lines = first_part rest c.in-Some.part.now behind s.1.0 s.2 s.0 s.1.1 first.1 in
+    goes_step c.args.text.now rest c.without_newline.result.now behind (known_of c.loop-part.given) (known_of c.answer.new.self)
+    (vec_items c.loop-part.out) (vec_items c.answer.new.out)
+    (lines ∙ ap (λ q. q ∷ lines_of behind) (sym c.without_newline.ensures))
+    c.in_ok-answer.ensures.1 c.in_ok-answer.ensures.0 c.loop-part.invariant
 
 pub returns : goal.returns
-returns c = goes_end c.args.text.now c.loop-at.at (known_of c.loop-at.given) (vec_items c.loop-at.out) (omega arith) c.loop-at.invariant.1
+returns c =
+    goes_end c.args.text.now (split_inclusive_rest c.loop-part.part-iterator) (known_of c.loop-part.given) (vec_items c.loop-part.out)
+    c.in-None.ensures.steps.0 c.loop-part.invariant

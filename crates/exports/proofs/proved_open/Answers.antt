@@ -1,37 +1,14 @@
-use Rattle.std.proofs.Common.{ap, ◌∙◌, arith}
-use Rattle.speck.specs.Speck.{speck}
-use Rattle.exports.proofs.Choices.{mark_read, told_so}
+use Rattle.std.proofs.Common.{ap, ◌∙◌}
+use Rattle.elmd.specs.Refusals.{mark_number}
+use Rattle.exports.specs.Exports.{key_of, eight_of}
+use Rattle.exports.proofs.Choices.{mark_back, opens_for}
 use Rattle.exports.proofs.proved_open.Goals as goal
 
-pub returns-in-10 : goal.returns-in-10
-returns-in-10 c =
-    let k = mark_read c.args.mark c.in-Some.mark c.in-Some.ensures in
-    record {
-      bad_mark = λ h. let l = k.0 in absurd (omega arith);
-      by_aes10 = λ h e. told_so _ _ _ _ _ _ _ _ _ _ _ _ _ c.aes10.ensures c.eight-settings.ensures c.eight-nonce.ensures k.1 c.open_with.ensures;
-      by_aes6 = λ h e. let i = c.in-10.is in absurd (omega arith);
-      by_speck = λ h e. let i = c.in-10.is in absurd (omega arith);
-      unknown = λ a b d. absurd (a c.in-10.is);
-    }
-
-pub returns-in-6 : goal.returns-in-6
-returns-in-6 c =
-    let k = mark_read c.args.mark c.in-Some.mark c.in-Some.ensures in
-    record {
-      bad_mark = λ h. let l = k.0 in absurd (omega arith);
-      by_aes10 = λ h e. let i = c.in-6.is in absurd (omega arith);
-      by_aes6 = λ h e. told_so _ _ _ _ _ _ _ _ _ _ _ _ _ c.aes6.ensures c.eight-settings.ensures c.eight-nonce.ensures k.1 c.open_with-in-6.ensures;
-      by_speck = λ h e. let i = c.in-6.is in absurd (omega arith);
-      unknown = λ a b d. absurd (b c.in-6.is);
-    }
-
-pub returns-in-32 : goal.returns-in-32
-returns-in-32 c =
-    let k = mark_read c.args.mark c.in-Some.mark c.in-Some.ensures in
-    record {
-      bad_mark = λ h. let l = k.0 in absurd (omega arith);
-      by_aes10 = λ h e. let i = c.in-32.is in absurd (omega arith);
-      by_aes6 = λ h e. let i = c.in-32.is in absurd (omega arith);
-      by_speck = λ h e. told_so _ _ _ _ _ _ _ _ _ _ _ _ _ (c.new.ensures ∙ ap speck c.load.ensures) c.eight-settings.ensures c.eight-nonce.ensures k.1 c.open_with-in-32.ensures;
-      unknown = λ a b d. absurd (d c.in-32.is);
-    }
+pub returns : goal.returns
+returns c =
+    let arm = c.in-Some-Ok in
+    let named = rw arm.is-0 at c.cipher_for.ensures in
+    let mark = ap mark_number arm.ensures.1 ∙ mark_back c.args.mark arm.ensures.0 in
+    let opened = rw (c.eight.ensures, c.eight-2.ensures, mark) at c.open.ensures.opened in
+    let answer = opens_for _ (eight_of c.args.settings.now) (eight_of c.args.nonce.now) c.args.heading.now c.args.stream.now c.args.mark c.args.out.now c.open.new.out c.open.result opened c.args.label (key_of c.args.key.now) named arm.ensures.0 in
+    rw c.unwrap_or.ensures answer

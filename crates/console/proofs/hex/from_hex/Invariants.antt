@@ -1,10 +1,7 @@
-use Rattle.std.proofs.Common.{◌≡◌, ◌-◌, ◌≤◌, length, drop, vec_items}
+use Rattle.std.proofs.Common.{◌≡◌, drop, vec_items}
 use Rattle.console.specs.Hex.{from_hex}
-use Rattle.console.proofs.Hexes.{behind}
+use Rattle.console.proofs.Hexes.{behind, of_pairs}
 use Rattle.console.proofs.hex.from_hex.Given as goal
 
-abbrev pub invariant-loop-at : goal.invariant-loop-at
-invariant-loop-at l = (l.at ≤ length l.text) × (behind (vec_items l.bytes) (from_hex (drop l.at l.text)) ≡ from_hex l.text)
-
-abbrev pub decreases-loop-at : goal.decreases-loop-at
-decreases-loop-at l = length l.text - l.at
+abbrev pub invariant-loop-high : goal.invariant-loop-high
+invariant-loop-high l = behind (vec_items l.bytes) (of_pairs (drop l.high-index l.pairs)) ≡ from_hex l.text

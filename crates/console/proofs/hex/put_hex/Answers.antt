@@ -1,5 +1,4 @@
 use Rattle.std.proofs.Common.{◌<◌, length, vec_items, arith}
-use Rattle.std.proofs.lemmas.List.{take_all}
 use Rattle.console.proofs.Hexes.{hex_more}
 use Rattle.console.proofs.hex.put_hex.Goals as goal
 
@@ -10,6 +9,3 @@ loop-b-preserved c =
     let a = c.in_ok-push.ensures.items in
     let b = c.in_ok-push-2.ensures.items in
     cc
-
-pub returns : goal.returns
-returns c = let t = take_all c.loop-b.b-index c.args.bytes.now (omega arith) in cc
