@@ -1,20 +1,32 @@
 // Our answers, in the words of the cases; and the bytes that a call must not touch.
-use console::hex::put_hex;
 use elmd::refusal::Refusal;
 use payfile::refusal::FileRefusal;
 use std::alloc::{AllocError, Global};
+use std::fmt;
 
 // What stands in an output before a call.
 pub(crate) const UNTOUCHED: u8 = 0xa5;
 
+// Bytes as lower-case digits, two to a byte.
+#[derive(Clone, Copy)]
+pub(crate) struct Hex<'a>(pub(crate) &'a [u8]);
+
+impl fmt::Display for Hex<'_> {
+    fn fmt<W: fmt::Write>(&self, f: &mut fmt::Formatter<W>) -> fmt::Result {
+        for b in self.0 {
+            write!(f, "{b:02x}")?;
+        }
+        Ok(())
+    }
+}
+
 pub(crate) fn refusal(heap: Global, why: FileRefusal) -> Result<String, AllocError> {
-    let number = why.number();
-    format!(in heap; "R {number}")
+    format!(in heap; "R {}", u8::from(why))
 }
 
 // With the layer, and with the check that is bad.
 pub(crate) fn layered(heap: Global, why: FileRefusal) -> Result<String, AllocError> {
-    let number = why.number();
+    let number = u8::from(why);
     match why {
         FileRefusal::File(_) => format!(in heap; "R {number} file"),
         FileRefusal::Seal(Refusal::BadCheck(j)) => format!(in heap; "R {number} seal {j}"),
@@ -22,29 +34,15 @@ pub(crate) fn layered(heap: Global, why: FileRefusal) -> Result<String, AllocErr
     }
 }
 
-pub(crate) fn bytes(heap: Global, letter: &str, bytes: &[u8]) -> Result<String, AllocError> {
-    let mut digits = Vec::new(heap);
-    put_hex(&mut digits, bytes)?;
-    let mut text = String::from_str(heap, letter)?;
-    for d in digits.iter() {
-        text.push(char::from(*d))?;
-    }
-    Ok(text)
-}
-
+// As in `trials`: it is one line, and the two programs share no crate.
 pub(crate) fn all(bytes: &[u8], value: u8) -> bool {
-    for b in bytes {
-        if *b != value {
-            return false;
-        }
-    }
-    true
+    bytes.iter().all(|b| *b == value)
 }
 
 // Whether a place holds zeros from `from` to `to`, and behind them what was there before.
 pub(crate) fn zeros_then_untouched(out: &[u8], from: usize, to: usize) -> bool {
-    if from > to || to > out.len() {
-        return false;
+    match (out.get(from..to), out.get(to..)) {
+        (Some(place), Some(rest)) => all(place, 0) && all(rest, UNTOUCHED),
+        _ => false,
     }
-    all(&out[from..to], 0) && all(&out[to..out.len()], UNTOUCHED)
 }

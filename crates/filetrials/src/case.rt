@@ -1,70 +1,70 @@
-// The fields of a case.
+// A case, read from its line: a letter, what the call is given, and the answer that is expected.
+use crate::opens::OpenCase;
+use crate::parts::PartsCase;
+use crate::writes::WriteCase;
 use anyhow::anyhow;
 use console::hex::from_hex;
+use labelled::LabelledCipher;
 use std::alloc::Global;
 
-// One case: its words, the last of which are the answer that is expected.
+// An enum, since a function may not hand out a boxed `dyn`.
 #[derive(Drop)]
-pub(crate) struct Case<'a> {
-    words: Vec<&'a str>,
+pub(crate) enum Case {
+    Write(WriteCase),
+    Open(OpenCase),
+    Parts(PartsCase),
 }
 
-impl<'a> Case<'a> {
-    pub(crate) fn new(heap: Global, line: &'a str) -> anyhow::Result<Case<'a>> {
-        let words = line.split(' ').collect(heap)?;
-        Ok(Case { words })
-    }
-
-    pub(crate) fn word(&self, i: usize) -> &'a str {
-        self.words.get(i).copied().unwrap_or("")
-    }
-
-    pub(crate) fn number(&self, i: usize) -> anyhow::Result<u32> {
-        Ok(self.word(i).parse::<u32>()?)
-    }
-
-    pub(crate) fn bytes(&self, heap: Global, i: usize) -> anyhow::Result<Vec<u8>> {
-        let text = self.word(i);
-        if text == "-" {
-            return Ok(Vec::new(heap));
-        }
-        match from_hex(heap, text.as_bytes())? {
-            Some(bytes) => Ok(bytes),
-            None => Err(anyhow!("a field that is not hexadecimal")),
-        }
-    }
-
-    pub(crate) fn eight(&self, heap: Global, i: usize) -> anyhow::Result<[u8; 8]> {
-        let bytes = self.bytes(heap, i)?;
-        let mut eight = [0u8; 8];
-        if bytes.len() != 8 {
-            return Err(anyhow!("a field that has not eight bytes"));
-        }
-        eight.copy_from_slice(bytes.as_slice());
-        Ok(eight)
-    }
-
-    pub(crate) fn key(&self, heap: Global, i: usize) -> anyhow::Result<[u8; 16]> {
-        let bytes = self.bytes(heap, i)?;
-        let mut key = [0u8; 16];
-        if bytes.len() != 16 {
-            return Err(anyhow!("a key that has not sixteen bytes"));
-        }
-        key.copy_from_slice(bytes.as_slice());
-        Ok(key)
-    }
-
-    // The expected answer: the words from `i` on.
-    pub(crate) fn answer(&self, heap: Global, i: usize) -> anyhow::Result<String> {
-        let mut text = String::new(heap);
-        for (k, word) in self.words.iter().enumerate() {
-            if k > i {
-                text.push_str(" ")?;
+impl Case {
+    // The case of a line with the answer that is expected; none where the line is a remark.
+    pub(crate) fn read(heap: Global, line: &str) -> anyhow::Result<Option<(Case, &str)>> {
+        let (letter, rest) = line.split_once(' ').unwrap_or((line, ""));
+        // Each arm by `?`: `map` with a closure for the pair would take as many lines.
+        match letter {
+            "W" => {
+                let (case, answer) = WriteCase::read(heap, rest)?;
+                Ok(Some((Case::Write(case), answer)))
             }
-            if k >= i {
-                text.push_str(word)?;
+            "O" => {
+                let (case, answer) = OpenCase::read(heap, rest)?;
+                Ok(Some((Case::Open(case), answer)))
             }
+            "P" => {
+                let (case, answer) = PartsCase::read(heap, rest)?;
+                Ok(Some((Case::Parts(case), answer)))
+            }
+            _ => Ok(None),
         }
-        Ok(text)
     }
+
+    // Our answer, or what is wrong with the output.
+    pub(crate) fn answer(&mut self, heap: Global) -> anyhow::Result<String> {
+        match self {
+            Case::Write(case) => case.answer(heap),
+            Case::Open(case) => case.answer(heap),
+            Case::Parts(case) => case.answer(heap),
+        }
+    }
+}
+
+// Bytes as digits; a dash stands for none.
+pub(crate) fn bytes(heap: Global, digits: &str) -> anyhow::Result<Vec<u8>> {
+    if digits == "-" {
+        return Ok(Vec::new(heap));
+    }
+    from_hex(heap, digits.as_bytes())?.ok_or(anyhow!("a field that is not hexadecimal"))
+}
+
+pub(crate) fn array<const N: usize>(heap: Global, digits: &str) -> anyhow::Result<[u8; N]> {
+    bytes(heap, digits)?
+        .as_slice()
+        .as_array()
+        .copied()
+        .ok_or(anyhow!("a field that has not {N} bytes"))
+}
+
+pub(crate) fn cipher(heap: Global, label: &str, key: &str) -> anyhow::Result<LabelledCipher> {
+    LabelledCipher::for_label(label.parse()?, &array(heap, key)?).ok_or(anyhow!(
+        "a cipher that is not there"
+    ))
 }

@@ -1,58 +1,72 @@
 // Files opened.
-use crate::answers::{UNTOUCHED, all, bytes, layered, zeros_then_untouched};
-use crate::case::Case;
+use crate::answers::{Hex, UNTOUCHED, all, layered, zeros_then_untouched};
+use crate::case::{bytes, cipher};
 use anyhow::anyhow;
-use cipher::Cipher;
 use elmd::refusal::Refusal;
 use elmd::settings::Settings;
+use labelled::LabelledCipher;
 use payfile::open::open_file;
 use payfile::read::read_front;
 use payfile::refusal::FileRefusal;
 use std::alloc::Global;
 
-// Sixteen times the blocks of the stream in a file, where it has a layout.
-fn place_of_message(file: &[u8]) -> usize {
-    let Ok(front) = read_front(file) else {
-        return 0;
-    };
-    let Ok(settings) = Settings::read(&front.settings, front.settings[0]) else {
-        return 0;
-    };
-    match settings.shape(front.stream, front.mark) {
-        Ok(shape) => shape.blocks.saturating_mul(16),
-        Err(_) => 0,
+#[derive(Drop)]
+pub(crate) struct OpenCase {
+    cipher: LabelledCipher,
+    file: Vec<u8>,
+    room: usize,
+}
+
+impl OpenCase {
+    pub(crate) fn read(heap: Global, line: &str) -> anyhow::Result<(OpenCase, &str)> {
+        // Apart from the other kinds' words, for the reason in `WriteCase::read`.
+        let words: Vec<&str> = line.splitn(5, ' ').collect(heap)?;
+        let [label, key, file, room, answer] = words.as_slice() else {
+            return Err(anyhow!("a line that is cut short"));
+        };
+        let case = OpenCase {
+            cipher: cipher(heap, label, key)?,
+            file: bytes(heap, file)?,
+            room: room.parse()?,
+        };
+        Ok((case, *answer))
     }
+
+    pub(crate) fn answer(&mut self, heap: Global) -> anyhow::Result<String> {
+        let file = self.file.as_slice();
+        let mut out = vec![in heap; UNTOUCHED; self.room]?;
+        let opened = open_file(&mut self.cipher, file, out.as_mut_slice());
+        let left = out.as_slice();
+        match opened {
+            Ok(n) if n <= left.len() && zeros_then_untouched(left, n, message_place(file)) => {
+                Ok(format!(in heap; "M {}", Hex(&left[..n]))?)
+            }
+            Ok(_) => Err(anyhow!("bytes behind a message are not as they should be")),
+            Err(why) if left_rightly(why, file, left) => Ok(layered(heap, why)?),
+            Err(_) => Err(anyhow!("a refused opening left other bytes than it should")),
+        }
+    }
+}
+
+// Sixteen times the blocks of the stream in a file.
+fn laid_out(file: &[u8]) -> Result<usize, FileRefusal> {
+    let front = read_front(file)?;
+    let settings = Settings::read(&front.settings, front.settings[0])?;
+    let shape = settings.shape(front.stream, front.mark)?;
+    Ok(shape.blocks.saturating_mul(16))
+}
+
+// How much of the output is the message's, nothing where the file has no layout.
+fn message_place(file: &[u8]) -> usize {
+    laid_out(file).unwrap_or(0)
 }
 
 // What a refusal must leave: zeros in the message's place behind 38 and 40, all else as it was.
 fn left_rightly(why: FileRefusal, file: &[u8], out: &[u8]) -> bool {
     match why {
         FileRefusal::Seal(Refusal::BadCheck(_) | Refusal::BadTag) => {
-            zeros_then_untouched(out, 0, place_of_message(file))
+            zeros_then_untouched(out, 0, message_place(file))
         }
         _ => all(out, UNTOUCHED),
-    }
-}
-
-// The answer to an `O` line under its cipher, or what is wrong with the output.
-pub(crate) fn open_case<C: Cipher>(
-    heap: Global,
-    c: &mut C,
-    case: &Case<'_>,
-) -> anyhow::Result<String> {
-    let file = case.bytes(heap, 3)?;
-    let room = case.number(4)? as usize;
-    let mut out = vec![in heap; UNTOUCHED; room]?;
-    let opened = open_file(c, file.as_slice(), out.as_mut_slice());
-    let left = out.as_slice();
-    match opened {
-        Ok(n)
-            if n <= left.len()
-                && zeros_then_untouched(left, n, place_of_message(file.as_slice())) => {
-            Ok(bytes(heap, "M ", &left[0..n])?)
-        }
-        Ok(_) => Err(anyhow!("bytes behind a message are not as they should be")),
-        Err(why) if left_rightly(why, file.as_slice(), left) => Ok(layered(heap, why)?),
-        Err(_) => Err(anyhow!("a refused opening left other bytes than it should")),
     }
 }

@@ -1,9 +1,44 @@
 // Files read in parts.
 use crate::answers::refusal;
-use crate::case::Case;
+use crate::case::bytes;
+use anyhow::anyhow;
 use fileparts::part::Part;
 use fileparts::reader::Reader;
 use std::alloc::{AllocError, Global};
+
+#[derive(Drop)]
+pub(crate) struct PartsCase {
+    file: Vec<u8>,
+}
+
+impl PartsCase {
+    pub(crate) fn read(heap: Global, line: &str) -> anyhow::Result<(PartsCase, &str)> {
+        // Apart from the other kinds' words, for the reason in `WriteCase::read`.
+        let words: Vec<&str> = line.splitn(2, ' ').collect(heap)?;
+        let [file, answer] = words.as_slice() else {
+            return Err(anyhow!("a line that is cut short"));
+        };
+        let case = PartsCase {
+            file: bytes(heap, file)?,
+        };
+        Ok((case, *answer))
+    }
+
+    pub(crate) fn answer(&self, heap: Global) -> anyhow::Result<String> {
+        let reader = match Reader::new(self.file.as_slice()) {
+            Ok(reader) => reader,
+            Err(why) => return Ok(refusal(heap, why)?),
+        };
+        let mut text = String::new(heap);
+        for part in reader {
+            if !text.is_empty() {
+                text.push_str(",")?;
+            }
+            text.push_str(shown(heap, part)?.as_str())?;
+        }
+        Ok(text)
+    }
+}
 
 fn shown(heap: Global, part: Part<'_>) -> Result<String, AllocError> {
     let place = part.place();
@@ -15,21 +50,4 @@ fn shown(heap: Global, part: Part<'_>) -> Result<String, AllocError> {
         Part::Check { index, .. } => format!(in heap; "check{index}:{place}:{n}"),
         Part::Tag { .. } => format!(in heap; "tag:{place}:{n}"),
     }
-}
-
-// The answer to a `P` line.
-pub(crate) fn read_case(heap: Global, case: &Case<'_>) -> anyhow::Result<String> {
-    let file = case.bytes(heap, 1)?;
-    let reader = match Reader::new(file.as_slice()) {
-        Ok(reader) => reader,
-        Err(why) => return Ok(refusal(heap, why)?),
-    };
-    let mut text = String::new(heap);
-    for part in reader {
-        if !text.is_empty() {
-            text.push_str(",")?;
-        }
-        text.push_str(shown(heap, part)?.as_str())?;
-    }
-    Ok(text)
 }

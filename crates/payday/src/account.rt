@@ -2,6 +2,7 @@
 use elmd::refusal::Refusal;
 use std::alloc::{AllocError, Global};
 use std::collections::BTreeMap;
+use std::fmt;
 
 #[derive(Drop)]
 pub(crate) struct Account {
@@ -46,28 +47,29 @@ impl Account {
 
     pub(crate) fn note_refused(&mut self, why: Refusal) -> Result<(), AllocError> {
         self.refused = self.refused.wrapping_add(1);
-        let count = self.by_number.entry(why.number())?.or_insert(0);
+        let count = self.by_number.entry(u8::from(why))?.or_insert(0);
         *count = count.wrapping_add(1);
         Ok(())
     }
+}
 
-    pub(crate) fn print(&self, rt: &HostRuntime) -> anyhow::Result<()> {
-        let sealed = self.sealed;
-        let opened = self.opened;
-        let streamed = self.streamed;
-        let refused = self.refused;
-        let message = self.message_bytes;
-        let stream = self.stream_bytes;
-        let out = self.opened_bytes;
-        println!(rt; "Account of the run")?;
-        println!(rt;
-            "  sealed   {sealed:>3} files: {message} bytes of wages, {stream} bytes of stream"
+impl fmt::Display for Account {
+    fn fmt<W: fmt::Write>(&self, f: &mut fmt::Formatter<W>) -> fmt::Result {
+        writeln!(f, "Account of the run")?;
+        writeln!(
+            f,
+            "  sealed   {:>3} files: {} bytes of wages, {} bytes of stream",
+            self.sealed, self.message_bytes, self.stream_bytes
         )?;
-        println!(rt; "  opened   {opened:>3} times: {out} bytes of wages let out")?;
-        println!(rt; "  streamed {streamed:>3} files, line by line")?;
-        println!(rt; "  refused  {refused:>3} times")?;
-        for (number, count) in self.by_number.iter() {
-            println!(rt; "    number {number}: {count:>3}")?;
+        writeln!(
+            f,
+            "  opened   {:>3} times: {} bytes of wages let out",
+            self.opened, self.opened_bytes
+        )?;
+        writeln!(f, "  streamed {:>3} files, line by line", self.streamed)?;
+        writeln!(f, "  refused  {:>3} times", self.refused)?;
+        for (number, count) in &self.by_number {
+            writeln!(f, "    number {number}: {count:>3}")?;
         }
         Ok(())
     }

@@ -1,155 +1,137 @@
 // Every call of the library in parts, tried once on a short message: also those that are refused.
-use crate::account::Account;
-use crate::run::note_refused;
-use anyhow::anyhow;
+use crate::order::cipher;
+use crate::run::Run;
+use anyhow::{bail, ensure};
 use cipher::Cipher;
+use elmd::envelope::Envelope;
 use elmd::refusal::{Mark, Refusal};
 use elmd::settings::Settings;
-use rehearsal::{OpenAnswer, OpenCall, SealAnswer, SealCall, rehearse};
+use rehearsal::{Call, Given, Heading, NotGiven, OpenAnswer, Part, SealAnswer, Taken, rehearse};
 use sealing::seal;
 
 const NONCE: [u8; 8] = [0, 0, 0, 0, 0, 0, 0x30, 0x04];
 
 const MESSAGE: [u8; 40] = [b'7'; 40];
 
-fn tell_refused(rt: &HostRuntime, account: &mut Account, why: Refusal) -> anyhow::Result<()> {
-    note_refused(rt, account, why)?;
-    println!(rt; "")?;
-    Ok(())
-}
+impl Run<'_> {
+    fn tell_call_refused(&mut self, why: Refusal) -> anyhow::Result<()> {
+        self.note_refused(why)?;
+        println!(self.rt; "")?;
+        Ok(())
+    }
 
-fn tell_sealer(
-    rt: &HostRuntime,
-    account: &mut Account,
-    answers: &[SealAnswer],
-) -> anyhow::Result<()> {
-    for answer in answers.iter() {
-        print!(rt; "  sealer: ")?;
-        match *answer {
-            SealAnswer::Handed(n) => println!(rt; "handed over {n}")?,
-            SealAnswer::Sealed(n, _) => println!(rt; "handed over {n}, and the seal is made")?,
-            SealAnswer::Refused(why) => tell_refused(rt, account, why)?,
-            SealAnswer::Ended => println!(rt; "no seal any more")?,
+    // Apart from `tell_opener`: the answers differ, and so does what is told of each.
+    fn tell_sealer(&mut self, answers: &[SealAnswer]) -> anyhow::Result<()> {
+        for answer in answers {
+            print!(self.rt; "  sealer: ")?;
+            match *answer {
+                Ok(Given::Handed(n)) => println!(self.rt; "handed over {n}")?,
+                Ok(Given::Sealed(n, _)) => {
+                    println!(self.rt; "handed over {n}, and the seal is made")?
+                }
+                Err(NotGiven::Refused(why)) => self.tell_call_refused(why)?,
+                Err(NotGiven::Ended) => println!(self.rt; "no seal any more")?,
+            }
         }
+        Ok(())
     }
-    Ok(())
-}
 
-fn tell_opener(
-    rt: &HostRuntime,
-    account: &mut Account,
-    answers: &[OpenAnswer],
-) -> anyhow::Result<()> {
-    for answer in answers.iter() {
-        print!(rt; "  opener: ")?;
-        match *answer {
-            OpenAnswer::Took(n, out) => println!(rt; "took {n}, let out {out}")?,
-            OpenAnswer::Opened(n) => println!(rt; "let out {n}, and the file is open")?,
-            OpenAnswer::Refused(why) => tell_refused(rt, account, why)?,
+    fn tell_opener(&mut self, answers: &[OpenAnswer]) -> anyhow::Result<()> {
+        for answer in answers {
+            print!(self.rt; "  opener: ")?;
+            match *answer {
+                Ok(Taken::Took(n, out)) => println!(self.rt; "took {n}, let out {out}")?,
+                Ok(Taken::Opened(n)) => println!(self.rt; "let out {n}, and the file is open")?,
+                Err(why) => self.tell_call_refused(why)?,
+            }
         }
+        Ok(())
     }
-    Ok(())
+
+    // With a check every two blocks and the whole tag, 40 bytes make a stream of 80.
+    pub(crate) fn all_calls(&mut self, settings: Settings) -> anyhow::Result<()> {
+        println!(self.rt; "Every call on a seal and an opening in parts")?;
+        let mut c = cipher(settings.label, 0x3c)?;
+        let envelope = Envelope {
+            settings: settings.to_bytes(),
+            nonce: NONCE,
+            heading: b"123",
+        };
+        let mut stream = [0u8; 80];
+        let (_, mark) = seal(&mut c, &envelope, &MESSAGE, &mut stream)?;
+        let mut sealed = [0u8; 96];
+        let mut opened = [0u8; 96];
+        let mut seal_answers = [Err(NotGiven::Ended); 6];
+        let mut open_answers = [Ok(Taken::Opened(0)); 7];
+        rehearsed(
+            &mut c,
+            &envelope,
+            &mut Part {
+                calls: &seal_calls(),
+                out: &mut sealed,
+                answers: &mut seal_answers,
+            },
+            mark,
+            &mut Part {
+                calls: &open_calls(&stream),
+                out: &mut opened,
+                answers: &mut open_answers,
+            },
+        )?;
+        self.tell_sealer(&seal_answers)?;
+        self.tell_opener(&open_answers)?;
+        ensure!(
+            sealed.starts_with(&stream) && opened.starts_with(&MESSAGE),
+            "the parts do not come to the whole"
+        );
+        println!(self.rt; "  both come to what was sealed whole")?;
+        println!(self.rt; "")?;
+        Ok(())
+    }
 }
 
-// With a check every two blocks and the whole tag, 40 bytes make a stream of 80.
-pub(crate) fn all_calls<C: Cipher>(
-    rt: &HostRuntime,
-    account: &mut Account,
-    c: &mut C,
-    settings: Settings,
-) -> anyhow::Result<()> {
-    println!(rt; "Every call on a seal and an opening in parts")?;
-    let bytes = settings.to_bytes();
-    let mut stream = [0u8; 80];
-    let mark = match seal(c, &bytes, &NONCE, b"123", &MESSAGE, &mut stream) {
-        Ok((_, mark)) => mark,
-        Err(_) => return Err(anyhow!("a message that is not sealed")),
-    };
-    let mut sealed = [0u8; 96];
-    let mut opened = [0u8; 96];
-    let mut seal_answers = [SealAnswer::Ended; 6];
-    let mut open_answers = [OpenAnswer::Opened(0); 7];
-    run_calls(
-        c,
-        &bytes,
-        &stream,
-        mark,
-        &mut sealed,
-        &mut seal_answers,
-        &mut opened,
-        &mut open_answers,
-    )?;
-    tell_sealer(rt, account, &seal_answers)?;
-    tell_opener(rt, account, &open_answers)?;
-    if &sealed[0..80] != stream.as_slice() || &opened[0..40] != MESSAGE.as_slice() {
-        return Err(anyhow!("the parts do not come to the whole"));
-    }
-    println!(rt; "  both come to what was sealed whole")?;
-    println!(rt; "")?;
-    Ok(())
-}
-
-fn seal_calls() -> [SealCall<'static>; 6] {
+fn seal_calls() -> [Call<'static>; 6] {
     let (front, back) = (&MESSAGE[0..17], &MESSAGE[17..40]);
     [
         put(front, 16),
-        SealCall::Finish { room: 96 },
+        Call::Finish { room: 96 },
         put(back, 8),
         put(back, 32),
-        SealCall::Finish { room: 32 },
-        SealCall::Finish { room: 32 },
+        Call::Finish { room: 32 },
+        Call::Finish { room: 32 },
     ]
 }
 
-fn put(piece: &[u8], room: usize) -> SealCall<'_> {
-    SealCall::Put { piece, room }
+fn put(piece: &[u8], room: usize) -> Call<'_> {
+    Call::Put { piece, room }
 }
 
-fn take(piece: &[u8], room: usize) -> OpenCall<'_> {
-    OpenCall::Put { piece, room }
-}
-
-fn open_calls(stream: &[u8; 80]) -> [OpenCall<'_>; 7] {
+fn open_calls(stream: &[u8; 80]) -> [Call<'_>; 7] {
     [
-        take(&stream[0..31], 0),
-        take(&stream[31..80], 0),
-        take(&stream[31..80], 32),
-        OpenCall::Finish { room: 16 },
-        take(&stream[48..80], 0),
-        OpenCall::Finish { room: 16 },
-        OpenCall::Finish { room: 16 },
+        put(&stream[0..31], 0),
+        put(&stream[31..80], 0),
+        put(&stream[31..80], 32),
+        Call::Finish { room: 16 },
+        put(&stream[48..80], 0),
+        Call::Finish { room: 16 },
+        Call::Finish { room: 16 },
     ]
 }
 
-fn run_calls<C: Cipher>(
+fn rehearsed<C: Cipher>(
     c: &mut C,
-    settings: &[u8; 8],
-    stream: &[u8; 80],
+    envelope: &Envelope<'_>,
+    sealed: &mut Part<'_, SealAnswer>,
     mark: Mark,
-    sealed: &mut [u8],
-    seal_answers: &mut [SealAnswer],
-    opened: &mut [u8],
-    open_answers: &mut [OpenAnswer],
+    opened: &mut Part<'_, OpenAnswer>,
 ) -> anyhow::Result<()> {
-    let pieces: [&[u8]; 2] = [b"12", b"3"];
-    let puts = seal_calls();
-    let takes = open_calls(stream);
-    match rehearse(
-        c,
-        settings,
-        &NONCE,
-        &pieces,
-        40,
-        &puts,
-        sealed,
-        seal_answers,
-        80,
-        mark,
-        &takes,
-        opened,
-        open_answers,
-    ) {
+    let heading = Heading {
+        settings: envelope.settings,
+        nonce: envelope.nonce,
+        pieces: &[b"12", b"3"],
+    };
+    match rehearse(c, &heading, 40, sealed, 80, mark, opened) {
         (Ok(_), Ok(_)) => Ok(()),
-        _ => Err(anyhow!("a seal or an opening that is not begun")),
+        _ => bail!("a seal or an opening that is not begun"),
     }
 }

@@ -1,110 +1,134 @@
 // A file in parts: the terminal pays each line as its check passes.
-use crate::account::Account;
 use crate::parcel::Parcel;
-use crate::run::note_refused;
-use anyhow::anyhow;
+use crate::run::Run;
+use anyhow::Context;
 use cipher::Cipher;
-use elmd::heading::open_heading;
 use elmd::refusal::Refusal;
-use elmd::state::ClosedHeading;
 use opening::Opener;
+use std::io;
+use std::iter::successors;
 
-// Enough for what one check lets out, at most 127 blocks.
+// A terminal has fixed memory: enough for what one check lets out, at most 127 blocks.
 const ROOM: usize = 2048;
 
-fn closed<C: Cipher>(c: &mut C, p: &Parcel) -> Result<ClosedHeading, Refusal> {
-    let mut heading = open_heading(c, &p.settings, &p.nonce)?;
-    heading.add(c, p.heading.as_bytes())?;
-    Ok(heading.close(c))
+// Why an opening in parts ends early.
+#[derive(Drop)]
+enum Stop {
+    Refused(Refusal),
+    Failed(anyhow::Error),
 }
 
-// Prints each line that is whole now; what is begun waits in `line`.
-fn pay_lines(rt: &HostRuntime, line: &mut Vec<u8>, out: &[u8]) -> anyhow::Result<()> {
-    for byte in out.iter() {
-        if *byte != b'\n' {
-            line.push(*byte)?;
-            continue;
-        }
-        match std::str::from_utf8(line.as_slice()) {
-            Ok(text) => println!(rt; "      paid: {text}")?,
-            Err(_) => return Err(anyhow!("a line that is no text")),
-        }
-        line.clear();
+impl From<Refusal> for Stop {
+    fn from(why: Refusal) -> Stop {
+        Stop::Refused(why)
     }
-    Ok(())
 }
 
-fn tell_stopped(rt: &HostRuntime, account: &mut Account, why: Refusal) -> anyhow::Result<()> {
-    print!(rt; "    ")?;
-    note_refused(rt, account, why)?;
-    println!(rt; "; nothing more is let out")?;
-    Ok(())
-}
-
-// Hands the stream over in pieces of odd sizes; whether all of it was taken.
-fn take_pieces<C: Cipher>(
-    rt: &HostRuntime,
-    account: &mut Account,
-    c: &mut C,
-    opener: &mut Opener,
-    stream: &[u8],
-    line: &mut Vec<u8>,
-) -> anyhow::Result<bool> {
-    let mut rest = stream;
-    let mut size = 1usize;
-    for _ in 0..stream.len() {
-        let n = size.min(rest.len());
-        if n == 0 {
-            return Ok(true);
-        }
-        let mut room = [0u8; ROOM];
-        match opener.put(c, rest.split_at(n).0, &mut room) {
-            Ok((took, out)) => {
-                println!(rt; "    piece of {n}: took {took}, let out {out}")?;
-                pay_lines(rt, line, room.split_at(out.min(ROOM)).0)?;
-                rest = rest.split_at(took.min(n)).1;
-            }
-            Err(why) => {
-                tell_stopped(rt, account, why)?;
-                return Ok(false);
-            }
-        }
-        size = size.wrapping_add(14) % 64;
+impl From<anyhow::Error> for Stop {
+    fn from(e: anyhow::Error) -> Stop {
+        Stop::Failed(e)
     }
-    Ok(rest.len() == 0)
 }
 
-// Opens a parcel as it comes in, piece by piece.
-pub(crate) fn open_in_parts<C: Cipher>(
-    rt: &HostRuntime,
-    account: &mut Account,
-    c: &mut C,
-    what: &'static str,
-    p: &Parcel,
-) -> anyhow::Result<()> {
-    println!(rt; "  {what}")?;
-    let heading = match closed(c, p) {
-        Ok(heading) => heading,
-        Err(why) => return tell_stopped(rt, account, why),
-    };
+impl From<io::Error> for Stop {
+    fn from(e: io::Error) -> Stop {
+        Stop::Failed(anyhow::Error::from(e))
+    }
+}
+
+fn begun<C: Cipher>(c: &mut C, p: &Parcel<'_>) -> Result<Opener, Refusal> {
+    let heading = p.envelope.close(c)?;
     let mut opener = Opener::unused();
-    match Opener::begin(&mut opener, heading, p.stream.len(), p.mark) {
-        Ok(()) => {}
-        Err(pair) => return tell_stopped(rt, account, pair.0),
-    }
-    let mut line = Vec::new(rt.alloc());
-    let stream = p.stream.as_slice();
-    if !take_pieces(rt, account, c, &mut opener, stream, &mut line)? {
-        return Ok(());
-    }
-    let mut room = [0u8; ROOM];
-    match opener.finish(c, &mut room) {
-        Ok(n) => {
-            println!(rt; "    end: let out {n}")?;
-            pay_lines(rt, &mut line, room.split_at(n.min(ROOM)).0)?;
-            account.note_streamed();
-            Ok(())
+    Opener::begin(&mut opener, heading, p.stream.len(), p.mark).map_err(|(why, _)| why)?;
+    Ok(opener)
+}
+
+// A terminal in the midst of a file. A line that is begun waits in `line`.
+#[derive(Drop)]
+struct Terminal<'a, C> {
+    rt: &'a HostRuntime,
+    cipher: &'a mut C,
+    opener: Opener,
+    line: Vec<u8>,
+}
+
+impl<C: Cipher> Terminal<'_, C> {
+    // Prints each line that is whole now.
+    fn pay_lines(&mut self, out: &[u8]) -> anyhow::Result<()> {
+        for byte in out {
+            if *byte != b'\n' {
+                self.line.push(*byte)?;
+                continue;
+            }
+            let text = std::str::from_utf8(self.line.as_slice()).context("a line that is no text")?;
+            println!(self.rt; "      paid: {text}")?;
+            self.line.clear();
         }
-        Err(why) => tell_stopped(rt, account, why),
+        Ok(())
+    }
+
+    // Takes from the front of `rest` a piece of at most `size` bytes; answers what is left.
+    fn take<'s>(&mut self, rest: &'s [u8], size: usize) -> Result<&'s [u8], Stop> {
+        let (piece, _) = rest.split_at(size.min(rest.len()));
+        let n = piece.len();
+        let mut room = [0u8; ROOM];
+        let (took, out) = self.opener.put(self.cipher, piece, &mut room)?;
+        println!(self.rt; "    piece of {n}: took {took}, let out {out}")?;
+        self.pay_lines(room.split_at(out.min(ROOM)).0)?;
+        Ok(rest.split_at(took.min(n)).1)
+    }
+
+    // Hands the stream over in pieces of odd sizes.
+    fn take_all(&mut self, stream: &[u8]) -> Result<(), Stop> {
+        let mut rest = stream;
+        let sizes = successors(Some(1usize), |size| Some(size.wrapping_add(14) % 64));
+        for size in sizes.take(stream.len()) {
+            if rest.is_empty() {
+                break;
+            }
+            rest = self.take(rest, size)?;
+        }
+        Ok(())
+    }
+
+    fn end(&mut self) -> Result<(), Stop> {
+        let mut room = [0u8; ROOM];
+        let n = self.opener.finish(self.cipher, &mut room)?;
+        println!(self.rt; "    end: let out {n}")?;
+        self.pay_lines(room.split_at(n.min(ROOM)).0)?;
+        Ok(())
+    }
+}
+
+impl Run<'_> {
+    fn pay<C: Cipher>(&self, c: &mut C, p: &Parcel<'_>) -> Result<(), Stop> {
+        let mut terminal = Terminal {
+            rt: self.rt,
+            opener: begun(c, p)?,
+            cipher: c,
+            line: Vec::new(self.rt.alloc()),
+        };
+        terminal.take_all(p.stream.as_slice())?;
+        terminal.end()
+    }
+
+    // Opens a parcel as it comes in, piece by piece.
+    pub(crate) fn open_in_parts<C: Cipher>(
+        &mut self,
+        c: &mut C,
+        what: &str,
+        p: &Parcel<'_>,
+    ) -> anyhow::Result<()> {
+        println!(self.rt; "  {what}")?;
+        match self.pay(c, p) {
+            Ok(()) => self.account.note_streamed(),
+            Err(Stop::Refused(why)) => {
+                print!(self.rt; "    ")?;
+                self.note_refused(why)?;
+                println!(self.rt; "; nothing more is let out")?;
+            }
+            Err(Stop::Failed(e)) => return Err(e),
+        }
+        Ok(())
     }
 }

@@ -1,7 +1,9 @@
 // A shed's wage sheet for a week.
+ghost use Rattle.std.specs.Prelude.{◌≤◌, length};
+
 use std::alloc::{AllocError, Global};
 use std::fmt;
-use std::fmt::Write;
+use std::fmt::InlineText;
 
 // A packer on the shed's roll, and the rate for a bin in cents.
 #[derive(Clone, Copy)]
@@ -94,6 +96,18 @@ const ROLL: [Packer; 16] = [
     },
 ];
 
+// Cents, shown as whole units and cents.
+#[derive(Clone, Copy)]
+struct Money(u64);
+
+impl fmt::Display for Money {
+    fn fmt<W: fmt::Write>(&self, f: &mut fmt::Formatter<W>) -> fmt::Result {
+        let (units, cents) = (self.0 / 100, self.0 % 100);
+        let text = InlineText::<24>::of(format_args!("{units}.{cents:02}"));
+        f.pad(text.as_str())
+    }
+}
+
 // A packer's line: the bins packed in the week and what they earn.
 #[derive(Clone, Copy)]
 struct Line {
@@ -102,61 +116,73 @@ struct Line {
 }
 
 impl Line {
+    // In cents.
+    fn pay(&self) -> u32 {
+        u32::from(self.bins) * u32::from(self.packer.rate)
+    }
+}
+
+impl fmt::Display for Line {
+    fn fmt<W: fmt::Write>(&self, f: &mut fmt::Formatter<W>) -> fmt::Result {
+        let Packer { number, name, rate } = self.packer;
+        let bins = self.bins;
+        let rate = Money(u64::from(rate));
+        let pay = Money(u64::from(self.pay()));
+        write!(
+            f,
+            "{number:>5}  {name:<14} {bins:>4} bins at {rate} {pay:>9}"
+        )
+    }
+}
+
+// Apart from `total_pay`: each sum is proved not to overflow, by the count of its lines.
+fn total_bins(lines: &[Line]) -> u32
+    requires { length lines.now ≤ 16 }
+{
+    lines.iter().map(|line| u32::from(line.bins)).sum()
+}
+
+fn total_pay(lines: &[Line]) -> u64
+    requires { length lines.now ≤ 16 }
+{
+    lines.iter().map(|line| u64::from(line.pay())).sum()
+}
+
+// The wage sheet of a shed for a week: a line for each packer of the roll, and the total.
+#[derive(Clone, Copy)]
+pub(crate) struct Sheet {
+    pub(crate) shed: u16,
+    pub(crate) week: u16,
+}
+
+impl Sheet {
     // The bins come from the three numbers alone, so that every run packs the same fruit.
-    fn of(packer: Packer, shed: u16, week: u16) -> Line {
-        let spread = u32::from(packer.number) * 29 + u32::from(shed) * 7 + u32::from(week) * 17;
+    fn line(self, packer: Packer) -> Line {
+        let spread = u32::from(packer.number) * 29
+            + u32::from(self.shed) * 7
+            + u32::from(self.week) * 17;
         Line {
             packer,
             bins: 180 + (spread % 97) as u16,
         }
     }
 
-    // In cents.
-    fn pay(&self) -> u64 {
-        u64::from(self.bins) * u64::from(self.packer.rate)
+    // What binds a seal to its shed and week: the digits of the one, then of the other.
+    pub(crate) fn heading(self, heap: Global) -> Result<String, AllocError> {
+        let (shed, week) = (self.shed, self.week);
+        format!(in heap; "{shed}{week}")
     }
 }
 
-impl fmt::Display for Line {
+impl fmt::Display for Sheet {
     fn fmt<W: fmt::Write>(&self, f: &mut fmt::Formatter<W>) -> fmt::Result {
-        let number = self.packer.number;
-        let name = self.packer.name;
-        let bins = self.bins;
-        let (rate, rate_cents) = money(u64::from(self.packer.rate));
-        let (pay, pay_cents) = money(self.pay());
-        write!(
-            f,
-            "{number:>5}  {name:<14} {bins:>4} bins at {rate}.{rate_cents:02} {pay:>6}.{pay_cents:02}",
-        )
+        let (shed, week) = (self.shed, self.week);
+        let lines = ROLL.map(|packer| self.line(packer));
+        writeln!(f, "Shed {shed}, week {week}")?;
+        for line in &lines {
+            writeln!(f, "{line}")?;
+        }
+        let (bins, pay) = (total_bins(&lines), Money(total_pay(&lines)));
+        writeln!(f, "Total                 {bins:>4} bins         {pay:>9}")
     }
-}
-
-// An amount as whole units and cents.
-fn money(cents: u64) -> (u64, u64) {
-    (cents / 100, cents % 100)
-}
-
-// The sheet as text: a line for each packer of the roll, and the total.
-pub(crate) fn sheet(heap: Global, shed: u16, week: u16) -> anyhow::Result<String> {
-    let mut text = String::new(heap);
-    writeln!(text, "Shed {shed}, week {week}")?;
-    let mut bins: u32 = 0;
-    let mut pay: u64 = 0;
-    for packer in ROLL.iter() {
-        let line = Line::of(*packer, shed, week);
-        writeln!(text, "{line}")?;
-        bins = bins.wrapping_add(u32::from(line.bins));
-        pay = pay.wrapping_add(line.pay());
-    }
-    let (sum, sum_cents) = money(pay);
-    writeln!(
-        text,
-        "Total                 {bins:>4} bins         {sum:>6}.{sum_cents:02}"
-    )?;
-    Ok(text)
-}
-
-// What binds a seal to its shed and week: the digits of the one, then of the other.
-pub(crate) fn heading(heap: Global, shed: u16, week: u16) -> Result<String, AllocError> {
-    format!(in heap; "{shed}{week}")
 }

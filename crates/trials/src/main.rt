@@ -3,6 +3,7 @@
 
 mod common;
 mod damage;
+mod desk;
 mod lengths;
 mod order;
 mod pieces;
