@@ -61,7 +61,7 @@ pub extern "C" fn proved_blocks(label: u8, forth: u8, key: &[u8], bytes: &mut [u
     ensures { bytes.new ≡ blocks_for label (key_of key.now) (not (forth == 0)) bytes.old }
 {
     let forth = forth != 0;
-    // The cipher is told once: told at each block, E of Speck has 0.88 of plain C's speed, under the 0.9 that docs/SPEED.md shows.
+    // The cipher is told apart once here, and not at each block.
     match cipher_for(label, key) {
         Some(LabelledCipher::Aes10(mut c)) => turn_all(&mut c, forth, bytes),
         Some(LabelledCipher::Aes6(mut c)) => turn_all(&mut c, forth, bytes),
