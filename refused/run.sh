@@ -16,14 +16,17 @@ bad=0
 # Whether the compiler takes the program $work/main.rt over the named crates, in a repository of its own;
 # what it says goes to $work/said. 'rt try' proves nothing.
 compiles() { # CRATES
-    local crate
+    local crate part
     rm -rf "$work/crates"
     mkdir -p "$work/crates/attempt/src"
     cp "$work/main.rt" "$work/crates/attempt/src/main.rt"
     : >"$work/crates.txt"
     for crate in $1; do
         mkdir "$work/crates/$crate"
-        cp -r "$root/crates/$crate/src" "$root/crates/$crate/specs" "$root/crates/$crate/proofs" "$work/crates/$crate"
+        for part in src specs proofs; do
+            # A crate whose proof the check finds alone has no proofs/.
+            if [ -d "$root/crates/$crate/$part" ]; then cp -r "$root/crates/$crate/$part" "$work/crates/$crate"; fi
+        done
         grep -E "^$crate( |:)" "$root/crates.txt" >>"$work/crates.txt"
     done
     echo "attempt: $1" >>"$work/crates.txt"

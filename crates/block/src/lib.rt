@@ -87,10 +87,11 @@ impl Block {
         ensures { value result ≡ of_bytes (padded (take 16 (drop at bytes.now))) }
     {
         let n = bytes.len();
-        let rest = &bytes[at.min(n)..n];
-        match rest.first_chunk() {
-            Some(whole) => Block::from_bytes(whole),
-            None => filled(rest),
+        // Tried: `first_chunk` of the rest. It costs each block of a message a thirtieth of its time under Speck.
+        if at < n && n - at >= 16 {
+            Block::from_bytes(bytes[at..at + 16].as_array().unwrap())
+        } else {
+            filled(&bytes[at.min(n)..n])
         }
     }
 

@@ -1,7 +1,12 @@
 -- The cipher that a label names, and an opening under it.
-use Rattle.std.proofs.Common.{◌≡◌, ◌≢◌, ℕ, zero, suc, ◌≤◌, cond, eqb, List, Some, Ok, Err, Result, refl, ⊎_elim, arith}
+use Rattle.std.proofs.Common.{◌≡◌, ◌≢◌, ℕ, zero, suc, ◌≤◌, Bool, cond, eqb, List, Some, Ok, Err, Option, Result, refl, ap, ◌∙◌, ⊎_elim, arith}
 use Rattle.std.proofs.lemmas.Bool.{ne_eqb, cases_eq}
+use Rattle.std.specs.Option.{option_map, unwrap_or}
 use Rattle.std.specs.Result.{result_unwrap_or}
+use Rattle.block.specs.declared.raw.Block.{Block}
+use Rattle.block.specs.Bytes.{bytes_of, of_bytes, padded}
+use Rattle.block.specs.Value.{value, value_lt}
+use Rattle.block.proofs.Bytes.{bytes_number_back}
 use Rattle.cipher.specs.Meaning.{Meaning}
 use Rattle.aes.specs.Fips197.{aes10, aes6}
 use Rattle.speck.specs.Speck.{speck}
@@ -9,7 +14,7 @@ use Rattle.elmd.specs.declared.refusal.Refusal.{Refusal}
 use Rattle.elmd.specs.Refusals.{mark_number, mark_of}
 use Rattle.elmd.specs.Heading.{frame_of}
 use Rattle.opening.specs.Open.{Opened}
-use Rattle.exports.specs.Exports.{cipher_named, chosen, opened_length, OpenedTo, OpenFor}
+use Rattle.exports.specs.Exports.{cipher_named, chosen, all_blocks, blocks_for, opened_length, OpenedTo, OpenFor}
 
 -- label by label
 pub chosen_by_label : (A : Type 0) (label key : ℕ) (f : Meaning → A) (none : A) → chosen label key f none ≡ cond (eqb label 10) (f (aes10 key)) (cond (eqb label 6) (f (aes6 key)) (cond (eqb label 32) (f (speck key)) none))
@@ -20,6 +25,13 @@ chosen_by_label A label key f none =
     (λ b. ⊎_elim (λ e. rw e refl)
     (λ d. rw (ne_eqb label 255 n, ne_eqb label 10 a, ne_eqb label 6 b, ne_eqb label 32 d) refl)
     (cases_eq label 32)) (cases_eq label 6)) (cases_eq label 10)) (cases_eq label 255)
+
+-- a key by way of a block's bytes
+pub key_back : (b : Block) (bytes : List ℕ) (key : ℕ) → bytes ≡ bytes_of (value b) → value b ≡ key → of_bytes bytes ≡ key
+key_back b bytes key is e = ap of_bytes is ∙ bytes_number_back (value b) (value_lt b) ∙ e
+
+pub blocks_named : (label key : ℕ) (m : Meaning) (forth : Bool) (xs : List ℕ) → Some m ≡ cipher_named label key → all_blocks m forth xs ≡ blocks_for label key forth xs
+blocks_named label key m forth xs named = ap (λ (o : Option Meaning). unwrap_or (option_map (λ n. all_blocks n forth xs) o) xs) named
 
 module _ (label key : ℕ) (m : Meaning) (named : Some m ≡ cipher_named label key) where
   is_aes10 : label ≡ 10 → m ≡ aes10 key

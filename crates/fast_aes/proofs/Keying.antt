@@ -1,8 +1,10 @@
 -- The round keys as words, against those as bytes.
-use Rattle.std.proofs.Common.{◌≡◌, ℕ, zero, suc, ◌+◌, ◌-◌, ◌<◌, ◌≤◌, true, false, List, [], ◌∷◌, length, get_or, map, take, drop, reverse, sym, refl, ap, ◌∙◌, ap₂, zero-add, arith, length-drop}
+use Rattle.std.proofs.Common.{◌≡◌, ℕ, zero, suc, ◌+◌, ◌-◌, ◌<◌, ◌≤◌, true, false, ⊎_elim, List, [], ◌∷◌, length, get_or, map, set, take, drop, reverse, sym, refl, ap, ◌∙◌, ap₂, zero-add, arith, length-drop}
 use Rattle.std.specs.List.{fold}
 use lib.Bits.{bit_xor}
-use Rattle.std.proofs.lemmas.List.{get_or-map, length-map}
+use Rattle.std.proofs.lemmas.Bool.{cases_lt}
+use Rattle.std.proofs.lemmas.Grind.{get_or-set_at}
+use Rattle.std.proofs.lemmas.List.{get_or-map, get_or-set_other, length-map, length-set}
 use Rattle.std.proofs.lemmas.List.FromFn.{fill_by_all, get_or-map-range_with_len}
 use Rattle.block.specs.Bytes.{of_bytes, bytes_of, Bytes}
 use Rattle.block.proofs.Bytes.{number_back}
@@ -45,6 +47,10 @@ module _ (ks ds : List (List ℕ)) where
   abbrev mixed_back : ℕ → List ℕ
   mixed_back i = inv_mix_columns (spread (get_or ks i []))
 
+  -- those below place i
+  abbrev pub Unmixing : ℕ → Type 0
+  Unmixing i = (length ds ≡ 11) × ((k : ℕ) → k < i → spread (get_or ds k []) ≡ mixed_back k)
+
   pub unmixes_are : ((i : ℕ) → i < 11 → spread (get_or ds i []) ≡ mixed_back i) → spreads ds ≡ unmixes ks
   unfolding spreads unmixes
   unmixes_are e = fill_by_all mixed_back (spreads ds) 11 [] refl (λ k h. spreads_at ds k h ∙ e k h)
@@ -52,6 +58,15 @@ module _ (ks ds : List (List ℕ)) where
   unmixed_at : spreads ds ≡ unmixes ks → (i : ℕ) → i < 11 → spread (get_or ds i []) ≡ mixed_back i
   unfolding unmixes
   unmixed_at e i h = sym (spreads_at ds i h) ∙ ap (λ (l : List (List ℕ)). get_or l i []) e ∙ get_or-map-range_with_len mixed_back 0 11 i i [] h (zero-add i)
+
+pub unmixing_more : (ks ds : List (List ℕ)) (i : ℕ) (v : List ℕ) → i < 11 → spread v ≡ inv_mix_columns (spread (get_or ks i [])) → Unmixing ks ds i → Unmixing ks (set ds i v) (i + 1)
+unmixing_more ks ds i v h e p = (
+  simp length-set p.0,
+  λ k below. ⊎_elim
+      (λ (less : k < i). ap spread (get_or-set_other ds i k v [] (λ q. omega arith)) ∙ p.1 k less)
+      (λ (same : i ≤ k). ap spread (get_or-set_at ds i k v [] (omega arith) (omega (arith, p.0))) ∙ e ∙ ap (λ (j : ℕ). inv_mix_columns (spread (get_or ks j []))) (omega arith))
+      (cases_lt k i),
+)
 
 -- the rounds as a loop takes them
 module _ (ks : List (List ℕ)) (long : length ks ≡ 11) (n : ℕ) (s : List ℕ) (h : n < 11) where

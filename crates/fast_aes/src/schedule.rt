@@ -38,7 +38,12 @@ impl Expansion for Schedule {
 fn unmix_all(keys: &[State; 11]) -> [State; 11]
     ensures { spreads result ≡ unmixes keys.now }
 {
-    keys.map(unmix)
+    // Tried: `map`. It moves each key more than once, and working out the keys took a quarter more time.
+    let mut inv_keys = [[0; 4]; 11];
+    for (i, inv_key) in inv_keys.iter_mut().enumerate() {
+        *inv_key = unmix(keys[i]);
+    }
+    inv_keys
 }
 
 impl Schedule {

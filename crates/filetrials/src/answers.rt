@@ -1,24 +1,11 @@
 // Our answers, in the words of the cases; and the bytes that a call must not touch.
+use console::hex::put_hex;
 use elmd::refusal::Refusal;
 use payfile::refusal::FileRefusal;
 use std::alloc::{AllocError, Global};
-use std::fmt;
 
 // What stands in an output before a call.
 pub(crate) const UNTOUCHED: u8 = 0xa5;
-
-// Bytes as lower-case digits, two to a byte.
-#[derive(Clone, Copy)]
-pub(crate) struct Hex<'a>(pub(crate) &'a [u8]);
-
-impl fmt::Display for Hex<'_> {
-    fn fmt<W: fmt::Write>(&self, f: &mut fmt::Formatter<W>) -> fmt::Result {
-        for b in self.0 {
-            write!(f, "{b:02x}")?;
-        }
-        Ok(())
-    }
-}
 
 pub(crate) fn refusal(heap: Global, why: FileRefusal) -> Result<String, AllocError> {
     format!(in heap; "R {}", u8::from(why))
@@ -32,6 +19,18 @@ pub(crate) fn layered(heap: Global, why: FileRefusal) -> Result<String, AllocErr
         FileRefusal::Seal(Refusal::BadCheck(j)) => format!(in heap; "R {number} seal {j}"),
         FileRefusal::Seal(_) => format!(in heap; "R {number} seal"),
     }
+}
+
+// A letter, and bytes as digits. Tried: a type that prints itself, by `write!` of each byte and by `write_char` of each digit. Both
+// took half as long again for a long file.
+pub(crate) fn bytes(heap: Global, letter: &str, bytes: &[u8]) -> Result<String, AllocError> {
+    let mut digits = Vec::new(heap);
+    put_hex(&mut digits, bytes)?;
+    let mut text = String::from_str(heap, letter)?;
+    for d in &digits {
+        text.push(char::from(*d))?;
+    }
+    Ok(text)
 }
 
 // As in `trials`: it is one line, and the two programs share no crate.

@@ -2,7 +2,7 @@
 use crate::opens::OpenCase;
 use crate::parts::PartsCase;
 use crate::writes::WriteCase;
-use anyhow::anyhow;
+use anyhow::Context;
 use console::hex::from_hex;
 use labelled::LabelledCipher;
 use std::alloc::Global;
@@ -47,24 +47,42 @@ impl Case {
     }
 }
 
+// A line that is cut short has empty words, and is judged like any other.
+pub(crate) fn word<'a>(words: &[&'a str], i: usize) -> &'a str {
+    words.get(i).copied().unwrap_or("")
+}
+
 // Bytes as digits; a dash stands for none.
 pub(crate) fn bytes(heap: Global, digits: &str) -> anyhow::Result<Vec<u8>> {
     if digits == "-" {
         return Ok(Vec::new(heap));
     }
-    from_hex(heap, digits.as_bytes())?.ok_or(anyhow!("a field that is not hexadecimal"))
+    from_hex(heap, digits.as_bytes())?.context("a field that is not hexadecimal")
 }
 
-pub(crate) fn array<const N: usize>(heap: Global, digits: &str) -> anyhow::Result<[u8; N]> {
+pub(crate) fn array<const N: usize>(
+    heap: Global,
+    digits: &str,
+    fault: &'static str,
+) -> anyhow::Result<[u8; N]> {
     bytes(heap, digits)?
         .as_slice()
         .as_array()
         .copied()
-        .ok_or(anyhow!("a field that has not {N} bytes"))
+        .context(fault)
 }
 
+// A label of a case may be above a byte: no cipher has it, and the key is judged first.
 pub(crate) fn cipher(heap: Global, label: &str, key: &str) -> anyhow::Result<LabelledCipher> {
-    LabelledCipher::for_label(label.parse()?, &array(heap, key)?).ok_or(anyhow!(
-        "a cipher that is not there"
-    ))
+    let key = array(heap, key, "a key that has not sixteen bytes")?;
+    let named = match u8::try_from(label.parse::<u32>()?) {
+        Ok(label) => LabelledCipher::for_label(label, &key),
+        Err(_) => None,
+    };
+    named.context("a cipher that is not there")
+}
+
+// The room that a call gets.
+pub(crate) fn room(digits: &str) -> anyhow::Result<usize> {
+    Ok(digits.parse::<u32>()? as usize)
 }

@@ -1,6 +1,6 @@
 // Files opened.
-use crate::answers::{Hex, UNTOUCHED, all, layered, zeros_then_untouched};
-use crate::case::{bytes, cipher};
+use crate::answers::{self, UNTOUCHED, all, layered, zeros_then_untouched};
+use crate::case::{bytes, cipher, room, word};
 use anyhow::anyhow;
 use elmd::refusal::Refusal;
 use elmd::settings::Settings;
@@ -19,17 +19,14 @@ pub(crate) struct OpenCase {
 
 impl OpenCase {
     pub(crate) fn read(heap: Global, line: &str) -> anyhow::Result<(OpenCase, &str)> {
-        // Apart from the other kinds' words, for the reason in `WriteCase::read`.
         let words: Vec<&str> = line.splitn(5, ' ').collect(heap)?;
-        let [label, key, file, room, answer] = words.as_slice() else {
-            return Err(anyhow!("a line that is cut short"));
-        };
+        let words = words.as_slice();
         let case = OpenCase {
-            cipher: cipher(heap, label, key)?,
-            file: bytes(heap, file)?,
-            room: room.parse()?,
+            cipher: cipher(heap, word(words, 0), word(words, 1))?,
+            file: bytes(heap, word(words, 2))?,
+            room: room(word(words, 3))?,
         };
-        Ok((case, *answer))
+        Ok((case, word(words, 4)))
     }
 
     pub(crate) fn answer(&mut self, heap: Global) -> anyhow::Result<String> {
@@ -39,7 +36,7 @@ impl OpenCase {
         let left = out.as_slice();
         match opened {
             Ok(n) if n <= left.len() && zeros_then_untouched(left, n, message_place(file)) => {
-                Ok(format!(in heap; "M {}", Hex(&left[..n]))?)
+                Ok(answers::bytes(heap, "M ", &left[..n])?)
             }
             Ok(_) => Err(anyhow!("bytes behind a message are not as they should be")),
             Err(why) if left_rightly(why, file, left) => Ok(layered(heap, why)?),

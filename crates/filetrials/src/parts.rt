@@ -1,7 +1,6 @@
 // Files read in parts.
 use crate::answers::refusal;
-use crate::case::bytes;
-use anyhow::anyhow;
+use crate::case::{bytes, word};
 use fileparts::part::Part;
 use fileparts::reader::Reader;
 use std::alloc::{AllocError, Global};
@@ -13,15 +12,12 @@ pub(crate) struct PartsCase {
 
 impl PartsCase {
     pub(crate) fn read(heap: Global, line: &str) -> anyhow::Result<(PartsCase, &str)> {
-        // Apart from the other kinds' words, for the reason in `WriteCase::read`.
         let words: Vec<&str> = line.splitn(2, ' ').collect(heap)?;
-        let [file, answer] = words.as_slice() else {
-            return Err(anyhow!("a line that is cut short"));
-        };
+        let words = words.as_slice();
         let case = PartsCase {
-            file: bytes(heap, file)?,
+            file: bytes(heap, word(words, 0))?,
         };
-        Ok((case, *answer))
+        Ok((case, word(words, 1)))
     }
 
     pub(crate) fn answer(&self, heap: Global) -> anyhow::Result<String> {

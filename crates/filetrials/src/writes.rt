@@ -1,6 +1,6 @@
 // Files written.
-use crate::answers::{Hex, UNTOUCHED, all, refusal};
-use crate::case::{array, bytes, cipher};
+use crate::answers::{self, UNTOUCHED, all, refusal};
+use crate::case::{array, bytes, cipher, room, word};
 use anyhow::anyhow;
 use labelled::LabelledCipher;
 use payfile::write::write_file;
@@ -19,33 +19,19 @@ pub(crate) struct WriteCase {
 
 impl WriteCase {
     pub(crate) fn read(heap: Global, line: &str) -> anyhow::Result<(WriteCase, &str)> {
-        // Tried and not proved: one `words<const N: usize>` for the three kinds of cases; the borrow checker
-        // does not cover a function that answers `[&str; N]`.
         let words: Vec<&str> = line.splitn(9, ' ').collect(heap)?;
-        let [
-            label,
-            key,
-            shed,
-            week,
-            settings,
-            nonce,
-            message,
-            room,
-            answer,
-        ] = words.as_slice()
-        else {
-            return Err(anyhow!("a line that is cut short"));
-        };
+        let words = words.as_slice();
+        let fault = "a field that has not eight bytes";
         let case = WriteCase {
-            cipher: cipher(heap, label, key)?,
-            shed: shed.parse()?,
-            week: week.parse()?,
-            settings: array(heap, settings)?,
-            nonce: array(heap, nonce)?,
-            message: bytes(heap, message)?,
-            room: room.parse()?,
+            cipher: cipher(heap, word(words, 0), word(words, 1))?,
+            shed: word(words, 2).parse()?,
+            week: word(words, 3).parse()?,
+            settings: array(heap, word(words, 4), fault)?,
+            nonce: array(heap, word(words, 5), fault)?,
+            message: bytes(heap, word(words, 6))?,
+            room: room(word(words, 7))?,
         };
-        Ok((case, *answer))
+        Ok((case, word(words, 8)))
     }
 
     pub(crate) fn answer(&mut self, heap: Global) -> anyhow::Result<String> {
@@ -62,7 +48,7 @@ impl WriteCase {
         let left = out.as_slice();
         match written {
             Ok(n) if n <= left.len() && all(&left[n..], UNTOUCHED) => {
-                Ok(format!(in heap; "F {}", Hex(&left[..n]))?)
+                Ok(answers::bytes(heap, "F ", &left[..n])?)
             }
             Ok(_) => Err(anyhow!("bytes behind a file are not as they were")),
             Err(why) if all(left, UNTOUCHED) => Ok(refusal(heap, why)?),

@@ -15,24 +15,24 @@ pub(crate) trait Driven {
     // How a call in so much room leads from a state to a state, with the bytes that it writes and its answer.
     ghost does: { Meaning → Self → Call → ℕ → Self → List ℕ → Self.Answer → Type 0 };
 
-    // Makes one call: what is left to call on, how many bytes were written, and the answer.
-    fn make<C: Cipher>(self, c: &mut C, call: &Call, out: &mut [u8]) -> (Self, usize, Self::Answer)
-        ensures within { Within result.1 out.old out.new }
-        ensures does { does (C.Cipher.meaning c.old) self call.now (length out.old) result.0 (take result.1 out.new) result.2 }
+    // Makes one call: how many bytes were written, and the answer. It is lent, since an opener holds back two KiB.
+    fn make<C: Cipher>(&mut self, c: &mut C, call: &Call, out: &mut [u8]) -> (usize, Self::Answer)
+        ensures within { Within result.0 out.old out.new }
+        ensures does { does (C.Cipher.meaning c.old) self.old call.now (length out.old) self.new (take result.0 out.new) result.1 }
         ensures same { C.Cipher.meaning c.new ≡ C.Cipher.meaning c.old };
 }
 
 // One call, whose output begins at `pos`.
 fn turn<C: Cipher, D: Driven>(
-    driven: D,
+    driven: &mut D,
     c: &mut C,
     call: &Call,
     out: &mut [u8],
     pos: usize,
-) -> (D, usize, D::Answer)
+) -> (usize, D::Answer)
     requires { pos ≤ length out.old }
-    ensures wrote { Wrote pos (pos + result.1) out.old out.new }
-    ensures does { D.Driven.does (C.Cipher.meaning c.old) driven call.now (min (room_of call.now) (length out.old - pos)) result.0 (take result.1 (drop pos out.new)) result.2 }
+    ensures wrote { Wrote pos (pos + result.0) out.old out.new }
+    ensures does { D.Driven.does (C.Cipher.meaning c.old) driven.old call.now (min (room_of call.now) (length out.old - pos)) driven.new (take result.0 (drop pos out.new)) result.1 }
     ensures same { C.Cipher.meaning c.new ≡ C.Cipher.meaning c.old }
 {
     let end = pos + call.room().min(out.len() - pos);
@@ -40,21 +40,20 @@ fn turn<C: Cipher, D: Driven>(
 }
 
 // Makes as many of the calls as there are places for answers, in order: each in the part of `out` behind the last, of its
-// room or what is left. Answers what is left to call on, and how many bytes were written in all.
+// room or what is left. Answers how many bytes were written in all.
 // Tried: a `Part` here too. While its answers are lent to the loop, an invariant has no names for its other fields.
 pub(crate) fn drive<C: Cipher, D: Driven>(
-    driven: D,
+    driven: &mut D,
     c: &mut C,
     calls: &[Call],
     out: &mut [u8],
     answers: &mut [D::Answer],
-) -> (D, usize)
-    ensures within { Within result.1 out.old out.new }
+) -> usize
+    ensures within { Within result out.old out.new }
     ensures behind { drop (made calls.now answers.old) answers.new ≡ drop (made calls.now answers.old) answers.old }
-    ensures run { Run (D.Driven.does (C.Cipher.meaning c.old)) driven (length out.old) (take (made calls.now answers.old) calls.now) (take (made calls.now answers.old) answers.new) result.0 (take result.1 out.new) }
+    ensures run { Run (D.Driven.does (C.Cipher.meaning c.old)) driven.old (length out.old) (take (made calls.now answers.old) calls.now) (take (made calls.now answers.old) answers.new) driven.new (take result out.new) }
     ensures same { C.Cipher.meaning c.new ≡ C.Cipher.meaning c.old }
 {
-    let mut held = driven;
     let mut pos = 0;
     // Tried and not proved: a zip of both, since behind a zip of `iter_mut` nothing is known of the answers.
     let mut left = calls.iter();
@@ -62,10 +61,9 @@ pub(crate) fn drive<C: Cipher, D: Driven>(
         let Some(call) = left.next() else {
             break;
         };
-        let (next, n, told) = turn(held, c, call, out, pos);
-        held = next;
+        let (n, told) = turn(driven, c, call, out, pos);
         pos += n;
         *answer = told;
     }
-    (held, pos)
+    pos
 }

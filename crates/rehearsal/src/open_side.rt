@@ -44,18 +44,11 @@ impl Driven for Opener {
 
     ghost does = { OpenerDoes };
 
-    fn make<C: Cipher>(
-        self,
-        c: &mut C,
-        call: &Call,
-        out: &mut [u8],
-    ) -> (Opener, usize, OpenAnswer) {
-        let mut opener = self;
-        let (n, answer) = match *call {
-            Call::Put { piece, .. } => put_one(c, &mut opener, piece, out),
-            Call::Finish { .. } => finish_one(c, &mut opener, out),
-        };
-        (opener, n, answer)
+    fn make<C: Cipher>(&mut self, c: &mut C, call: &Call, out: &mut [u8]) -> (usize, OpenAnswer) {
+        match *call {
+            Call::Put { piece, .. } => put_one(c, self, piece, out),
+            Call::Finish { .. } => finish_one(c, self, out),
+        }
     }
 }
 
@@ -75,6 +68,6 @@ pub(crate) fn drive_opener<C: Cipher>(
 {
     let mut opener = Opener::unused();
     Opener::begin(&mut opener, h, stream_length, mark).map_err(|(why, _)| why)?;
-    let (_, n) = drive(opener, c, part.calls, part.out, part.answers);
+    let n = drive(&mut opener, c, part.calls, part.out, part.answers);
     Ok(n)
 }

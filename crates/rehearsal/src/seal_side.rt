@@ -12,6 +12,7 @@ use cipher::Cipher;
 use elmd::refusal::Refusal;
 use elmd::state::ClosedHeading;
 use sealing::Sealer;
+use std::mem;
 
 // An opener's calls have other answers, and its finish does not take it, so each side has its own. The count stands beside the
 // answer, so that `drive` need not know either side's answers.
@@ -47,23 +48,36 @@ fn finish_one<C: Cipher>(
     }
 }
 
+fn one<C: Cipher>(
+    sealer: Sealer,
+    c: &mut C,
+    call: &Call,
+    out: &mut [u8],
+) -> (Option<Sealer>, usize, SealAnswer)
+    ensures within { Within result.1 out.old out.new }
+    ensures does { SealerDoes (C.Cipher.meaning c.old) (Some sealer) call.now (length out.old) result.0 (take result.1 out.new) result.2 }
+    ensures same { C.Cipher.meaning c.new ≡ C.Cipher.meaning c.old }
+{
+    match *call {
+        Call::Put { piece, .. } => put_one(sealer, c, piece, out),
+        Call::Finish { .. } => finish_one(sealer, c, out),
+    }
+}
+
 impl Driven for Option<Sealer> {
     type Answer = SealAnswer;
 
     ghost does = { SealerDoes };
 
-    fn make<C: Cipher>(
-        self,
-        c: &mut C,
-        call: &Call,
-        out: &mut [u8],
-    ) -> (Option<Sealer>, usize, SealAnswer) {
-        match self {
-            None => (None, 0, Err(NotGiven::Ended)),
-            Some(sealer) => match *call {
-                Call::Put { piece, .. } => put_one(sealer, c, piece, out),
-                Call::Finish { .. } => finish_one(sealer, c, out),
-            },
+    fn make<C: Cipher>(&mut self, c: &mut C, call: &Call, out: &mut [u8]) -> (usize, SealAnswer) {
+        match self.take() {
+            None => (0, Err(NotGiven::Ended)),
+            Some(sealer) => {
+                let (held, n, answer) = one(sealer, c, call, out);
+                // What stands there is none: it was taken.
+                give_up(mem::replace(self, held));
+                (n, answer)
+            }
         }
     }
 }
@@ -90,7 +104,8 @@ pub(crate) fn drive_sealer<C: Cipher>(
     ensures same { C.Cipher.meaning c.new ≡ C.Cipher.meaning c.old }
 {
     let sealer = Sealer::begin(h, n).map_err(|(why, _)| why)?;
-    let (held, w) = drive(Some(sealer), c, part.calls, part.out, part.answers);
+    let mut held = Some(sealer);
+    let w = drive(&mut held, c, part.calls, part.out, part.answers);
     give_up(held);
     Ok(w)
 }

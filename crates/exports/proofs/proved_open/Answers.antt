@@ -6,8 +6,8 @@ use Rattle.exports.proofs.proved_open.Goals as goal
 
 pub returns : goal.returns
 returns c =
-    let arm = c.in-Some-Ok in
-    let named = rw arm.is-0 at c.cipher_for.ensures in
+    let arm = c.in-Ok in
+    let named = rw c.in-Some.is at c.cipher_for.ensures in
     let mark = ap mark_number arm.ensures.1 ∙ mark_back c.args.mark arm.ensures.0 in
     let opened = rw (c.eight.ensures, c.eight-2.ensures, mark) at c.open.ensures.opened in
     let answer = opens_for _ (eight_of c.args.settings.now) (eight_of c.args.nonce.now) c.args.heading.now c.args.stream.now c.args.mark c.args.out.now c.open.new.out c.open.result opened c.args.label (key_of c.args.key.now) named arm.ensures.0 in

@@ -11,5 +11,5 @@ invariant-loop-answer g l =
       behind : drop i l.answers ≡ drop i l.initial.answers;
       left : l.left.rest.now ≡ drop i l.calls;
       made : i ≤ length l.calls;
-      run : Run (g.D.Driven.does (g.C.Cipher.meaning l.initial.c)) l.initial.held (length l.initial.out) (take i l.calls) (take i l.answers) l.held (take l.pos l.out);
+      run : Run (g.D.Driven.does (g.C.Cipher.meaning l.initial.c)) l.initial.driven (length l.initial.out) (take i l.calls) (take i l.answers) l.driven (take l.pos l.out);
     }
