@@ -38,7 +38,7 @@ impl Expansion for Schedule {
 fn unmix_all(keys: &[State; 11]) -> [State; 11]
     ensures { spreads result ≡ unmixes keys.now }
 {
-    // Tried: `map`. It moves each key more than once, and working out the keys took a quarter more time.
+    // Tried: `map`. It moves each key more than once, and working out the keys took a seventh more instructions.
     let mut inv_keys = [[0; 4]; 11];
     for (i, inv_key) in inv_keys.iter_mut().enumerate() {
         *inv_key = unmix(keys[i]);
