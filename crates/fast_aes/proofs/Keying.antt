@@ -79,9 +79,10 @@ module _ (ks : List (List ℕ)) (long : length ks ≡ 11) (n : ℕ) (s : List �
   key_at : (i : ℕ) → i < length (drop 1 ks) → get_or (spreads ks) (suc i) [] ≡ spread (get_or (drop 1 ks) i [])
   key_at i l = spreads_at ks (suc i) (omega (arith, length-drop 1 ks)) ∙ ap spread (sym (later ks i []))
 
-  pub rounds_by_words : fold (λ s k. round (spread k) s) (add_round_key (spread (get_or ks 0 [])) s) (take (n + 1 - 1) (drop 1 ks)) ≡ rounds (spreads ks) n s
-  rounds_by_words =
-      rw (same_number, ← spreads_at ks 0 (omega arith)) (rounds_are (spreads ks) (drop 1 ks) [] (λ k s. round (spread k) s)
+  -- up to key e, which is n in other words
+  pub rounds_by_words : (e : ℕ) → e ≡ n → fold (λ s k. round (spread k) s) (add_round_key (spread (get_or ks 0 [])) s) (take (e + 1 - 1) (drop 1 ks)) ≡ rounds (spreads ks) n s
+  rounds_by_words e is =
+      rw (is, same_number, ← spreads_at ks 0 (omega arith)) (rounds_are (spreads ks) (drop 1 ks) [] (λ k s. round (spread k) s)
       (λ i s l. ap (λ k. round k s) (sym (key_at i l))) n s short)
 
   module _ (ds : List (List ℕ)) (wide : length ds ≡ 11) (is : spreads ds ≡ unmixes ks) where

@@ -19,7 +19,7 @@ returns g c =
     let few : n < 10 = omega (arith, v.few.1) in
     let long : length k.keys ≡ 11 = search rules in
     let full : spread c.run_rounds-s.result ≡ rounds ks n (bytes_of b) =
-    rw (c.run_rounds-s.ensures, c.add_key-start.ensures, c.split.ensures) (rounds_by_words k.keys long n (bytes_of b) (omega arith)) in
+    rw (c.run_rounds-s.ensures, c.add_key-start.ensures, c.split.ensures) (rounds_by_words k.keys long n (bytes_of b) (omega arith) _ (search rules)) in
     let Is : Bool → Type 0 = λ last. spread c.if-LAST.out ≡ encipher last n ks (bytes_of b) in
     let e : Is c.LAST.result =
     elim c.if-LAST.branch [
